@@ -1,0 +1,20 @@
+//! What every layer of the simulator speaks of: numbered parts of the machine, words and masks,
+//! instructions, and the outside world.
+//!
+//! Nothing here knows how an instruction is encoded or carried out, or what a cache is. The crates
+//! above take their names from here, and add none of their own for the same things.
+#![tactic(auto)]
+
+pub use end::{End, Trap};
+pub use id::{ClusterId, HartId, LineId, WordAddr};
+pub use instr::{Amo, Branch, Fence, Instr, Jal, Jalr, Labels, Load, Op, OpImm, Store, Upper};
+pub use memory::OutOfMemory;
+pub use ops::{AluOp, AmoOp, BranchOp, LoadOp, StoreOp};
+pub use segment::Segment;
+
+mod end;
+mod id;
+mod instr;
+mod memory;
+mod ops;
+mod segment;
