@@ -1,0 +1,38 @@
+//! Instructions from their words.
+//!
+//! The layout of a word, which contracts speak of, is that of the RISC-V unprivileged manual's formats,
+//! in `specs/Layout.antt`.
+#![tactic(auto)]
+
+ghost use Rattle.std.specs.Prelude.{◌≡◌, ◌≢◌, IfSome, IfNone, IsTrue};
+ghost use Rattle.dash_base.specs.declared.instr.Instr.{Instr};
+ghost use Rattle.rv32_decode.specs.Layout.{word_of};
+ghost use Rattle.rv32_decode.specs.Served.{is_served};
+
+pub use dash_base::{AluOp, AmoOp, BranchOp, Instr, LoadOp, StoreOp};
+use fields::bits;
+
+mod fields;
+mod formats;
+mod tables;
+
+/// The instruction that has this word. None where none has it, or none that is served.
+pub fn decode(word: u32) -> Option<Instr>
+    ensures some { IfSome result (λ i. word_of i ≡ word) }
+    ensures served { IfSome result (λ i. IsTrue (is_served i)) }
+    ensures none { IfNone result ((i : Instr) → IsTrue (is_served i) → word_of i ≢ word) }
+{
+    match bits(word, 0, 7) {
+        0b0110111 => Some(Instr::Lui(formats::upper(word))),
+        0b0010111 => Some(Instr::Auipc(formats::upper(word))),
+        0b1101111 => formats::jal(word),
+        0b1100111 => formats::jalr(word),
+        0b1100011 => formats::branch(word),
+        0b0000011 => formats::load(word),
+        0b0100011 => formats::store(word),
+        0b0010011 => formats::op_imm(word),
+        0b0110011 => formats::op(word),
+        0b1110011 => formats::system(word),
+        _ => None,
+    }
+}
