@@ -1,3 +1,6 @@
 pub mod Ranges
 pub mod Words
 pub mod Segment
+pub mod Bounds
+pub mod Topology
+pub mod Outside

@@ -6,15 +6,23 @@
 #![tactic(auto)]
 
 pub use end::{End, Trap};
+pub use host::{Failed, Host, LoadFault, Stream};
 pub use id::{ClusterId, HartId, LineId, WordAddr};
 pub use instr::{Amo, Branch, Fence, Instr, Jal, Jalr, Labels, Load, Op, OpImm, Store, Upper};
+pub use mask::{Mask, merge};
 pub use memory::OutOfMemory;
+pub use memory_host::MemoryHost;
 pub use ops::{AluOp, AmoOp, BranchOp, LoadOp, StoreOp};
 pub use segment::Segment;
+pub use topology::{Key, KeyName, TopoRefusal, Topology};
 
 mod end;
+mod host;
 mod id;
 mod instr;
+mod mask;
 mod memory;
+mod memory_host;
 mod ops;
 mod segment;
+mod topology;

@@ -1,0 +1,44 @@
+-- What contracts say of the outside: files, printed bytes, and counts of faults.
+use Rattle.std.specs.Prelude.{◌≡◌, ℕ, ◌+◌, ◌-◌, ◌^◌, ◌<◌, ◌≤◌, ◌⊎◌, List, ◌++◌, take, Option, IfSome, IsSomeAnd}
+use Rattle.dash_base.specs.declared.host.Stream.{Stream}
+use Rattle.dash_base.specs.declared.host.Stream.TheVariants as stream
+
+-- the bytes of each file that there is
+abbrev pub Files : Type 0
+Files = List ℕ → Option (List ℕ)
+
+-- what was printed on each stream
+pub record Printed : Type 0 where
+  pub out : List ℕ
+  pub err : List ℕ
+
+abbrev pub on : Stream → Printed → List ℕ
+on stream.Out printed = printed.out
+on stream.Err printed = printed.err
+
+-- what was printed on the other stream
+abbrev pub beside : Stream → Printed → List ℕ
+beside stream.Out printed = printed.err
+beside stream.Err printed = printed.out
+
+-- a stream gained just these bytes, and the other none
+pub record Appends (to : Stream) (bytes : List ℕ) (old new : Printed) : Type 0 where
+  pub same : on to new ≡ on to old ++ bytes
+  pub others : beside to new ≡ beside to old
+
+-- a stream gained a prefix of these bytes, and the other none
+pub record AppendsPart (to : Stream) (bytes : List ℕ) (old new : Printed) : Type 0 where
+  pub count : ℕ
+  pub part : Appends to (take count bytes) old new
+
+-- what is told afterwards was told before, and follows from it
+abbrev pub Follows : (Printed → Printed → Type 0) → Option Printed → Option Printed → Type 0
+Follows step old new = IfSome new (λ after. IsSomeAnd old (λ before. step before after))
+
+-- the last value of a count of faults, at which it stays
+abbrev pub last_count : ℕ
+last_count = 2 ^ 64 - 1
+
+-- a count rose, or stands at its last value
+abbrev pub Rose : ℕ → ℕ → Type 0
+Rose old new = (old < new) ⊎ (last_count ≤ old)

@@ -1,0 +1,34 @@
+//! Masks of the bytes of a word, and words merged under one.
+ghost use Rattle.std.specs.Prelude.{◌≡◌, ◌<◌};
+ghost use Rattle.dash_base.specs.Words.{merged, merged_byte};
+
+/// Which bytes of a word: bit `i` for byte `i`, the lowest being byte 0.
+#[derive(Clone, Copy, Debug, PartialEq, Eq)]
+pub struct Mask {
+    pub bits: u32,
+    pub ghost in_range: { bits < 16 },
+}
+
+/// The bytes of `value` where the mask has its bit, and else those of `word`.
+#[tactic(auto, unfolding(crate::specs::Words::merged))]
+pub fn merge(word: u32, mask: Mask, value: u32) -> u32
+    ensures { result ≡ merged word mask.bits value }
+{
+    merged_byte(word, mask, value, 0)
+        + (merged_byte(word, mask, value, 1) << 8)
+        + (merged_byte(word, mask, value, 2) << 16)
+        + (merged_byte(word, mask, value, 3) << 24)
+}
+
+/// Byte `k` of the merged word.
+fn merged_byte(word: u32, mask: Mask, value: u32, k: u32) -> u32
+    requires { k < 4 }
+    ensures { result ≡ merged_byte k word mask.bits value }
+{
+    let chosen = if (mask.bits >> k) & 1 == 1 {
+        value
+    } else {
+        word
+    };
+    (chosen >> (8 * k)) & 0xff
+}
