@@ -1,0 +1,4 @@
+pub mod Bits
+pub mod Image
+pub mod Header
+pub mod Loader

@@ -1,0 +1,131 @@
+//! The loader.
+ghost use Rattle.std.specs.Prelude.{◌≡◌, ◌+◌, ◌*◌, ◌≤◌, IfOk, IfErr, Option, None, false, length};
+ghost use Rattle.elf_load.specs.Header.{file_header, program_header};
+ghost use Rattle.elf_load.specs.Loader.{refusal_of, image_of, is_short, is_elf, is_supported, is_served_file, is_served_segment, first_program_header, segment_of, Refuses};
+
+use crate::bits::has_bit;
+use crate::header::{FileHeader, ProgramHeader};
+use crate::image::Image;
+use crate::memory_map::MemoryMap;
+use crate::refusal::LoadRefusal;
+use dash_base::{OutOfMemory, Segment};
+use std::alloc::Global;
+
+/// Loads an executable file of 32 bits for RISC-V into the memory that `map` says.
+///
+/// # Errors
+///
+/// The first of these that applies: `Short` where the file has fewer than 52 bytes or ends before its
+/// program headers do, `NotElf` where it does not begin with 7F 45 4C 46, and `Unsupported` where it
+/// is no executable for RISC-V with one segment, which holds code, has all its bytes in the file, lies
+/// in memory and has the entry, a multiple of 4. `OutOfMemory` may come in place of any of them.
+pub fn load(alloc: Global, bytes: &[u8], map: MemoryMap) -> Result<Image, LoadRefusal>
+    ensures ok { IfOk result (λ image.
+        (refusal_of bytes.now map ≡ None) × (image ≡ image_of bytes.now)) }
+    ensures err { IfErr result (Refuses (refusal_of bytes.now map)) }
+{
+    match refusal(bytes, map) {
+        Some(refusal) => Err(refusal),
+        None => Ok(image(alloc, bytes)?),
+    }
+}
+
+/// The first refusal that applies.
+fn refusal(bytes: &[u8], map: MemoryMap) -> Option<LoadRefusal>
+    ensures { result ≡ refusal_of bytes.now map }
+{
+    if is_short(bytes) {
+        Some(LoadRefusal::Short {
+            at: bytes.len() as u64,
+        })
+    } else if !is_elf(bytes) {
+        Some(LoadRefusal::NotElf)
+    } else if !is_supported(bytes, map) {
+        Some(LoadRefusal::Unsupported)
+    } else {
+        None
+    }
+}
+
+/// Whether the file ends before its file header or its program headers do.
+fn is_short(bytes: &[u8]) -> bool
+    ensures { result ≡ is_short bytes.now }
+{
+    bytes.len() < FileHeader::SIZE || bytes.len() < FileHeader::read(bytes).headers_end()
+}
+
+/// Whether the file begins as an ELF file does.
+fn is_elf(bytes: &[u8]) -> bool
+    ensures { result ≡ is_elf bytes.now }
+{
+    bytes.starts_with(b"\x7fELF")
+}
+
+/// Whether the file, its segment and its entry are as they have to be.
+fn is_supported(bytes: &[u8], map: MemoryMap) -> bool
+    requires { is_short bytes.now ≡ false }
+    ensures { result ≡ is_supported bytes.now map }
+{
+    let file = FileHeader::read(bytes);
+    is_served_file(file)
+        && {
+            let program = ProgramHeader::read(bytes, file.e_phoff as usize);
+            is_served_segment(program, bytes.len(), file.e_entry, map)
+        }
+}
+
+fn is_served_file(header: FileHeader) -> bool
+    ensures { result ≡ is_served_file header }
+{
+    let is_little_32 = header.ei_class == 1 && header.ei_data == 1;
+    let is_riscv_executable = header.e_machine == 243 && header.e_type == 2;
+    let has_plain_flags = !has_bit(header.e_flags, 0) && !has_bit(header.e_flags, 3);
+    let has_one_segment = header.e_phnum == 1 && header.e_phentsize == 32;
+    is_little_32 && is_riscv_executable && has_plain_flags && has_one_segment
+}
+
+fn is_served_segment(header: ProgramHeader, len: usize, entry: u32, map: MemoryMap) -> bool
+    ensures { result ≡ is_served_segment header len entry map }
+{
+    let file_end = header.p_offset as usize + header.p_filesz as usize;
+    let end = u64::from(header.p_vaddr) + u64::from(header.p_memsz);
+    let memory_end = u64::from(map.base) + u64::from(map.size);
+
+    let is_code = header.p_type == 1 && has_bit(header.p_flags, 0);
+    let lies_in_file = file_end <= len;
+    let is_full = header.p_filesz == header.p_memsz && header.p_filesz > 0;
+    let lies_in_memory = map.base <= header.p_vaddr && end <= memory_end;
+    let has_entry = entry % 4 == 0 && header.p_vaddr <= entry && u64::from(entry) + 4 <= end;
+    is_code && lies_in_file && is_full && lies_in_memory && has_entry
+}
+
+/// The image of a file whose headers and whose segment's bytes are all there.
+fn image(alloc: Global, bytes: &[u8]) -> Result<Image, OutOfMemory>
+    requires header { 52 ≤ length bytes.now }
+    requires program_header { (file_header bytes.now).e_phoff + 32 ≤ length bytes.now }
+    requires segment { let program = first_program_header bytes.now in
+        program.p_offset + program.p_filesz ≤ length bytes.now }
+    ensures { IfOk result (λ image. image ≡ image_of bytes.now) }
+{
+    let file = FileHeader::read(bytes);
+    let program = ProgramHeader::read(bytes, file.e_phoff as usize);
+    let mut segments = Vec::with_capacity(alloc, 1)?;
+    segments.push(segment(alloc, bytes, program)?)?;
+    Ok(Image::new(file.e_entry, segments))
+}
+
+/// The segment of a program header, with its bytes.
+fn segment(alloc: Global, bytes: &[u8], header: ProgramHeader) -> Result<Segment, OutOfMemory>
+    requires within { header.p_offset + header.p_filesz ≤ length bytes.now }
+    requires full { header.p_filesz ≤ header.p_memsz }
+    ensures { IfOk result (λ segment. segment ≡ segment_of bytes.now header) }
+{
+    let start = header.p_offset as usize;
+    let end = start + header.p_filesz as usize;
+    Ok(Segment {
+        vaddr: header.p_vaddr,
+        memsz: header.p_memsz,
+        flags: header.p_flags,
+        bytes: Vec::from_slice(alloc, &bytes[start..end])?,
+    })
+}

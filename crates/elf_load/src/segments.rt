@@ -1,0 +1,153 @@
+//! What a list of segments has at an address.
+ghost use Rattle.std.specs.Prelude.{◌≡◌, ◌+◌, ◌-◌, ◌*◌, ◌/◌, ◌<◌, ◌≤◌, ◌^◌, ◌&&◌, not, length, slice_index, Option, option_copied, find, IfOk, IfSome};
+ghost use Rattle.dash_base.specs.Words.{word_of_bytes};
+ghost use Rattle.std.specs.List.{list_any};
+ghost use Rattle.elf_load.specs.Image.{holds, touches, HoldsWord, covers, meets, may_execute, may_write, is_code_at, is_constant_at, byte_among, word_among, words_among};
+
+use crate::bits::has_bit;
+use crate::memory_map::MemoryMap;
+use byteorder::{ByteOrder, LittleEndian};
+use dash_base::{OutOfMemory, Segment};
+use std::alloc::Global;
+
+/// Whether the address is one of the bytes that the segment begins with.
+fn holds(segment: &Segment, address: u64) -> bool
+    ensures { result ≡ holds address segment.now }
+{
+    let start = u64::from(segment.vaddr);
+    start <= address && address < start + segment.bytes.len() as u64
+}
+
+/// Whether all of the bytes from the address on lie in the segment.
+fn covers(segment: &Segment, address: u32, len: u32) -> bool
+    ensures { result ≡ covers address len segment.now }
+{
+    let end = u64::from(segment.vaddr) + u64::from(segment.memsz);
+    segment.vaddr <= address && u64::from(address) + u64::from(len) <= end
+}
+
+/// Whether one of the bytes from the address on lies in the segment.
+fn meets(segment: &Segment, address: u32, len: u32) -> bool
+    ensures { result ≡ meets address len segment.now }
+{
+    let end = u64::from(segment.vaddr) + u64::from(segment.memsz);
+    u64::from(segment.vaddr.max(address)) < end.min(u64::from(address) + u64::from(len))
+}
+
+fn may_execute(segment: &Segment) -> bool
+    ensures { result ≡ may_execute segment.now }
+{
+    has_bit(segment.flags, 0)
+}
+
+fn may_write(segment: &Segment) -> bool
+    ensures { result ≡ may_write segment.now }
+{
+    has_bit(segment.flags, 1)
+}
+
+/// The first segment that has the address among the bytes that it begins with.
+fn holder(segments: &[Segment], address: u64) -> Option<&Segment>
+    ensures first { option_copied result ≡ find (holds address) segments.now }
+    ensures within { IfSome result (λ s. (s.now.vaddr ≤ address)
+        × (address < s.now.vaddr + length s.now.bytes)) }
+{
+    segments.iter().find(|segment| holds(segment, address))
+}
+
+/// The opening byte at an address.
+#[tactic(auto, unfolding(crate::specs::Image::byte_among))]
+pub fn byte_at(segments: &[Segment], address: u64) -> u8
+    ensures { result ≡ byte_among segments.now address }
+{
+    match holder(segments, address) {
+        Some(segment) => segment.bytes[(address - u64::from(segment.vaddr)) as usize],
+        None => 0,
+    }
+}
+
+/// The opening word at an address.
+pub fn word_at(segments: &[Segment], address: u32) -> u32
+    ensures { result ≡ word_among segments.now address }
+{
+    let address = u64::from(address);
+    match first_touched(segments, address) {
+        None => 0,
+        Some(segment) => match word_in(segment, address) {
+            Some(word) => word,
+            None => word_by_bytes(segments, address),
+        },
+    }
+}
+
+/// The first segment that may have one of the four bytes from an address on among those that it begins
+/// with.
+fn first_touched(segments: &[Segment], address: u64) -> Option<&Segment>
+    requires { address < 2 ^ 32 }
+    ensures { option_copied result ≡ find (touches address) segments.now }
+{
+    segments.iter().find(|segment| touches(segment, address))
+}
+
+/// Whether the segment may have one of the four bytes from an address on among those that it begins
+/// with.
+fn touches(segment: &Segment, address: u64) -> bool
+    requires { address < 2 ^ 32 }
+    ensures { result ≡ touches address segment.now }
+{
+    let start = u64::from(segment.vaddr);
+    start < address + 4 && address < start + segment.bytes.len() as u64
+}
+
+/// The four bytes from an address on, where the segment begins with all of them.
+fn word_in(segment: &Segment, address: u64) -> Option<u32>
+    requires { address < 2 ^ 32 }
+    ensures { IfSome result (λ word. HoldsWord word address segment.now) }
+{
+    let start = u64::from(segment.vaddr);
+    if start <= address && address + 4 <= start + segment.bytes.len() as u64 {
+        Some(LittleEndian::read_u32(&segment.bytes[(address - start) as usize..]))
+    } else {
+        None
+    }
+}
+
+/// The four bytes from an address on, each of its own segment.
+fn word_by_bytes(segments: &[Segment], address: u64) -> u32
+    requires { address < 2 ^ 32 }
+    ensures { result ≡ word_among segments.now address }
+{
+    u32::from_le_bytes([
+        byte_at(segments, address),
+        byte_at(segments, address + 1),
+        byte_at(segments, address + 2),
+        byte_at(segments, address + 3),
+    ])
+}
+
+/// The words of the opening memory.
+pub fn words(alloc: Global, segments: &[Segment], map: MemoryMap) -> Result<Vec<u32>, OutOfMemory>
+    ensures { IfOk result (λ words. words.items ≡ words_among segments.now map) }
+{
+    Ok(
+        (0..map.size / 4)
+            .map(|i| word_at(segments, map.base + 4 * i))
+            .collect(alloc)?,
+    )
+}
+
+/// Whether one segment that may be executed has all four bytes from an address on.
+pub fn has_code(segments: &[Segment], pc: u32) -> bool
+    ensures { result ≡ list_any (is_code_at pc) segments.now }
+{
+    segments
+        .iter()
+        .any(|segment| may_execute(segment) && covers(segment, pc, 4))
+}
+
+/// Whether one of the bytes from an address on is in a segment that may not be written.
+pub fn has_constant(segments: &[Segment], address: u32, len: u32) -> bool
+    ensures { result ≡ list_any (is_constant_at address len) segments.now }
+{
+    segments.iter().any(|segment| !may_write(segment) && meets(segment, address, len))
+}
