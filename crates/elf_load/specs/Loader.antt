@@ -1,5 +1,5 @@
 -- Which files the loader refuses, and the image that it makes of the others.
-use Rattle.std.specs.Prelude.{◌≡◌, ℕ, ◌+◌, ◌*◌, ◌%◌, Bool, ◌==◌, ◌&&◌, ◌||◌, not, nat_eq, nat_le, nat_lt, if◌then◌else◌, Option, Some, None, List, [], ◌∷◌, length, slice_range}
+use Rattle.std.specs.Prelude.{◌≡◌, ◌≤◌, ℕ, ◌+◌, ◌*◌, ◌%◌, Bool, ◌==◌, ◌&&◌, ◌||◌, not, nat_eq, nat_le, nat_lt, if◌then◌else◌, Option, Some, None, List, [], ◌∷◌, length, slice_range}
 use Rattle.std.specs.List.{starts_with}
 use Rattle.dash_base.specs.Segment.{SegmentView}
 use Rattle.elf_load.specs.Bits.{has_bit}
@@ -107,3 +107,10 @@ image_of bytes = record {
   entry = (file_header bytes).e_entry;
   segments = segment_of bytes (first_program_header bytes) ∷ [];
 }
+
+-- the file has all that its image is made of, and the segment has room for its bytes
+pub record IsWhole (bytes : List ℕ) : Type 0 where
+  pub header : 52 ≤ length bytes
+  pub program_header : (file_header bytes).e_phoff + 32 ≤ length bytes
+  pub segment : (first_program_header bytes).p_offset + (first_program_header bytes).p_filesz ≤ length bytes
+  pub room : (first_program_header bytes).p_filesz ≤ (first_program_header bytes).p_memsz

@@ -18,3 +18,5 @@ mod loader;
 mod memory_map;
 mod refusal;
 mod segments;
+#[cfg(test)]
+mod tests;

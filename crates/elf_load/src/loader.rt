@@ -1,7 +1,7 @@
 //! The loader.
 ghost use Rattle.std.specs.Prelude.{◌≡◌, ◌+◌, ◌*◌, ◌≤◌, IfOk, IfErr, Option, None, false, length};
 ghost use Rattle.elf_load.specs.Header.{file_header, program_header};
-ghost use Rattle.elf_load.specs.Loader.{refusal_of, image_of, is_short, is_elf, is_supported, is_served_file, is_served_segment, first_program_header, segment_of, Refuses};
+ghost use Rattle.elf_load.specs.Loader.{refusal_of, image_of, is_short, is_elf, is_supported, is_served_file, is_served_segment, first_program_header, segment_of, IsWhole, Refuses};
 
 use crate::bits::has_bit;
 use crate::header::{FileHeader, ProgramHeader};
@@ -19,6 +19,7 @@ use std::alloc::Global;
 /// program headers do, `NotElf` where it does not begin with 7F 45 4C 46, and `Unsupported` where it
 /// is no executable for RISC-V with one segment, which holds code, has all its bytes in the file, lies
 /// in memory and has the entry, a multiple of 4. `OutOfMemory` may come in place of any of them.
+#[tactic(auto, using(crate::proofs::Whole::accepted_is_whole))]
 pub fn load(alloc: Global, bytes: &[u8], map: MemoryMap) -> Result<Image, LoadRefusal>
     ensures ok { IfOk result (λ image.
         (refusal_of bytes.now map ≡ None) × (image ≡ image_of bytes.now)) }
@@ -31,6 +32,7 @@ pub fn load(alloc: Global, bytes: &[u8], map: MemoryMap) -> Result<Image, LoadRe
 }
 
 /// The first refusal that applies.
+#[tactic(auto, unfolding(crate::specs::Loader::refusal_of))]
 fn refusal(bytes: &[u8], map: MemoryMap) -> Option<LoadRefusal>
     ensures { result ≡ refusal_of bytes.now map }
 {
@@ -100,11 +102,9 @@ fn is_served_segment(header: ProgramHeader, len: usize, entry: u32, map: MemoryM
 }
 
 /// The image of a file whose headers and whose segment's bytes are all there.
+#[tactic(auto, unfolding(crate::specs::Loader::image_of))]
 fn image(alloc: Global, bytes: &[u8]) -> Result<Image, OutOfMemory>
-    requires header { 52 ≤ length bytes.now }
-    requires program_header { (file_header bytes.now).e_phoff + 32 ≤ length bytes.now }
-    requires segment { let program = first_program_header bytes.now in
-        program.p_offset + program.p_filesz ≤ length bytes.now }
+    requires { IsWhole bytes.now }
     ensures { IfOk result (λ image. image ≡ image_of bytes.now) }
 {
     let file = FileHeader::read(bytes);

@@ -67,6 +67,7 @@ pub fn byte_at(segments: &[Segment], address: u64) -> u8
 }
 
 /// The opening word at an address.
+#[tactic(auto, using(crate::proofs::Touched::word_untouched, crate::proofs::Touched::word_touched))]
 pub fn word_at(segments: &[Segment], address: u32) -> u32
     ensures { result ≡ word_among segments.now address }
 {
@@ -113,6 +114,7 @@ fn word_in(segment: &Segment, address: u64) -> Option<u32>
 }
 
 /// The four bytes from an address on, each of its own segment.
+#[tactic(auto, unfolding(crate::specs::Image::word_among))]
 fn word_by_bytes(segments: &[Segment], address: u64) -> u32
     requires { address < 2 ^ 32 }
     ensures { result ≡ word_among segments.now address }
@@ -126,6 +128,7 @@ fn word_by_bytes(segments: &[Segment], address: u64) -> u32
 }
 
 /// The words of the opening memory.
+#[tactic(auto, unfolding(crate::specs::Image::words_among))]
 pub fn words(alloc: Global, segments: &[Segment], map: MemoryMap) -> Result<Vec<u32>, OutOfMemory>
     ensures { IfOk result (λ words. words.items ≡ words_among segments.now map) }
 {
