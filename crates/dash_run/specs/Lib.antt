@@ -1,0 +1,9 @@
+pub mod HartState
+pub mod Arithmetic
+pub mod Access
+pub mod Meaning
+pub mod Flat
+pub mod Held
+pub mod Report
+pub mod CommandLine
+pub mod Outcome

@@ -1,0 +1,307 @@
+//! A hart, and what its instructions mean to it.
+ghost use Rattle.std.specs.Prelude.{◌≡◌};
+ghost use Rattle.dash_base.specs.declared.end.End.TheVariants.{Trapped};
+ghost use Rattle.dash_run.specs.declared.need.Need.TheVariants.{Stop};
+ghost use Rattle.dash_run.specs.Meaning.{jump_need};
+
+use crate::access::{load_need, loaded, store_need};
+use crate::alu::{alu, takes};
+use crate::need::{Found, Need};
+use dash_base::{End, Instr, Topology, Trap};
+use elf_load::Image;
+use rv32_decode::decode;
+use std::marker::Model;
+
+/// One hart. Contracts see its state as a record.
+#[derive(Drop)]
+pub struct Hart {
+    pc: u32,
+    registers: [u32; 32],
+    retired: u32,
+    end: End,
+}
+
+impl Model for Hart {
+    ghost use Rattle.dash_run.specs.HartState.{HartState};
+
+    ghost Value = { HartState };
+
+    ghost view = { λ h. record { pc = h.pc; registers = h.registers; retired = h.retired; end = h.end } };
+}
+
+impl Hart {
+    ghost use Rattle.std.specs.Prelude.{◌≡◌, ◌*◌, ◌<◌};
+    ghost use Rattle.dash_run.specs.HartState.{can_go_on};
+    ghost use Rattle.dash_run.specs.Access.{IsProper};
+    ghost use Rattle.dash_run.specs.Meaning.{IsFound, IsServed, need_at};
+    ghost use Rattle.dash_run.specs.Flat.{opening_hart};
+
+    /// The hart with a number at its start: at the entry, sp at the top of its stack, a0 its number,
+    /// a1 how many harts there are.
+    pub fn new(image: &Image, topology: &Topology, number: u32) -> Hart
+        requires { number < topology.now.clusters * topology.now.harts }
+        ensures { result ≡ opening_hart image.now topology.now number }
+    {
+        let mut registers = [0; 32];
+        registers[2] = topology.base + topology.memory - number * topology.stack;
+        registers[10] = number;
+        registers[11] = topology.clusters * topology.harts;
+        Hart {
+            pc: image.entry(),
+            registers,
+            retired: 0,
+            end: End::Running,
+        }
+    }
+
+    pub fn pc(&self) -> u32
+        ensures { result ≡ self.now.pc }
+    {
+        self.pc
+    }
+
+    pub fn registers(&self) -> &[u32]
+        ensures { result.now ≡ self.now.registers }
+    {
+        &self.registers
+    }
+
+    pub fn retired(&self) -> u32
+        ensures { result ≡ self.now.retired }
+    {
+        self.retired
+    }
+
+    pub fn end(&self) -> End
+        ensures { result ≡ self.now.end }
+    {
+        self.end
+    }
+
+    /// Whether it has not ended and has instructions left to retire.
+    pub fn can_go_on(&self, topology: &Topology) -> bool
+        ensures { result ≡ can_go_on topology.now self.now }
+    {
+        matches!(self.end, End::Running) && self.retired < topology.budget
+    }
+
+    /// What stands at its pc.
+    pub fn find(&self, image: &Image) -> Found
+        ensures found { IsFound image.now self.now.pc result }
+        ensures served { IsServed result }
+    {
+        match image.fetch(self.pc) {
+            None => Found::NoWord,
+            Some(word) => match decode(word) {
+                None => Found::NoInstr(word),
+                Some(instr) => Found::This(instr),
+            },
+        }
+    }
+
+    /// What it needs where this stands at its pc.
+    pub fn need_at(&self, image: &Image, topology: &Topology, found: &Found) -> Need
+        requires { IsServed found.now }
+        ensures need { result ≡ need_at image.now topology.now self.now found.now }
+        ensures proper { IsProper topology.now result }
+    {
+        match found {
+            Found::NoWord => trap(Trap::Fetch, self.pc),
+            Found::NoInstr(word) => trap(Trap::Illegal, *word),
+            Found::This(instr) => self.instr_need(image, topology, instr),
+        }
+    }
+}
+
+impl Hart {
+    ghost use Rattle.std.specs.Prelude.{◌≡◌, ◌+◌, ◌<◌, ◌^◌, IsTrue};
+    ghost use Rattle.rv32_decode.specs.Served.{is_served};
+    ghost use Rattle.dash_run.specs.HartState.{reg, with_register, retired_to};
+    ghost use Rattle.dash_run.specs.Arithmetic.{moved_by};
+    ghost use Rattle.dash_run.specs.Access.{IsProper};
+    ghost use Rattle.dash_run.specs.Meaning.{IsServed, instr_need, call_need, next_pc, following, performed, with_result, ended, after_need};
+
+    /// Does what it needed, with the word that a load found as the answer.
+    pub fn finish(&mut self, found: &Found, need: &Need, answer: u32)
+        requires served { IsServed found.now }
+        requires room { self.old.retired + 1 < 2 ^ 32 }
+        ensures { self.new ≡ after_need self.old found.now need.now answer }
+    {
+        match need {
+            Need::Stop { end } => self.stop(*end),
+            _ => {
+                if let Found::This(instr) = found {
+                    self.perform(instr, answer);
+                }
+            }
+        }
+    }
+
+    /// What an instruction needs.
+    fn instr_need(&self, image: &Image, topology: &Topology, instr: &Instr) -> Need
+        ensures need { result ≡ instr_need image.now topology.now self.now instr.now }
+        ensures proper { IsProper topology.now result }
+    {
+        match instr {
+            Instr::Jal(_) | Instr::Jalr(_) => jump_need(self.next_pc(instr)),
+            Instr::Branch(i) => {
+                if takes(i.op, self.register(i.rs1), self.register(i.rs2)) {
+                    jump_need(self.pc.wrapping_add_signed(i.offset))
+                } else {
+                    Need::Alu
+                }
+            }
+            Instr::Load(i) => load_need(image, topology, i.op, self.address(i.rs1, i.offset)),
+            Instr::Store(i) => {
+                let address = self.address(i.rs1, i.offset);
+                store_need(image, topology, i.op, address, self.register(i.rs2))
+            }
+            Instr::Ecall => self.call_need(),
+            Instr::Ebreak => trap(Trap::Break, 0),
+            _ => Need::Alu,
+        }
+    }
+
+    /// What a call needs, by the number in a7.
+    fn call_need(&self) -> Need
+        ensures need { result ≡ call_need self.now }
+    {
+        match self.register(17) {
+            1 => Need::Put {
+                byte: (self.register(10) & 0xff) as u8,
+            },
+            93 => Need::Stop {
+                end: End::Exited(self.register(10)),
+            },
+            number => trap(Trap::BadCall, number),
+        }
+    }
+
+    /// The address at which it goes on after an instruction.
+    fn next_pc(&self, instr: &Instr) -> u32
+        ensures { result ≡ next_pc self.now instr.now }
+    {
+        match instr {
+            Instr::Jal(i) => self.pc.wrapping_add_signed(i.offset),
+            Instr::Jalr(i) => {
+                let target = self.address(i.rs1, i.offset);
+                target - target % 2
+            }
+            Instr::Branch(i) => {
+                if takes(i.op, self.register(i.rs1), self.register(i.rs2)) {
+                    self.pc.wrapping_add_signed(i.offset)
+                } else {
+                    self.following()
+                }
+            }
+            _ => self.following(),
+        }
+    }
+
+    /// Does an instruction that doesn't end it.
+    fn perform(&mut self, instr: &Instr, answer: u32)
+        requires served { IsTrue (is_served instr.now) }
+        requires room { self.old.retired + 1 < 2 ^ 32 }
+        ensures { self.new ≡ performed self.old instr.now answer }
+    {
+        let target = self.next_pc(instr);
+        self.write_result(instr, answer);
+        self.retire_to(target);
+    }
+
+    /// Writes an instruction's destination register.
+    fn write_result(&mut self, instr: &Instr, answer: u32)
+        requires { IsTrue (is_served instr.now) }
+        ensures { self.new ≡ with_result self.old instr.now answer }
+    {
+        match instr {
+            Instr::Lui(i) => self.set(i.rd, i.imm),
+            Instr::Auipc(i) => self.set(i.rd, self.pc.wrapping_add(i.imm)),
+            Instr::Jal(i) => self.set(i.rd, self.following()),
+            Instr::Jalr(i) => self.set(i.rd, self.following()),
+            Instr::Load(i) => {
+                let address = self.address(i.rs1, i.offset);
+                self.set(i.rd, loaded(i.op, address, answer));
+            }
+            Instr::OpImm(i) => {
+                let value = alu(i.op, self.register(i.rs1), i.imm.cast_unsigned());
+                self.set(i.rd, value);
+            }
+            Instr::Op(i) => {
+                let value = alu(i.op, self.register(i.rs1), self.register(i.rs2));
+                self.set(i.rd, value);
+            }
+            _ => {}
+        }
+    }
+
+    fn register(&self, r: u32) -> u32
+        requires { r < 32 }
+        ensures { result ≡ reg self.now r }
+    {
+        self.registers[r as usize]
+    }
+
+    /// The address at an offset from a register's value.
+    fn address(&self, rs1: u32, offset: i32) -> u32
+        requires { rs1 < 32 }
+        ensures { result ≡ moved_by (reg self.now rs1) offset }
+    {
+        self.register(rs1).wrapping_add_signed(offset)
+    }
+
+    /// The address of the next instruction in line.
+    fn following(&self) -> u32
+        ensures { result ≡ following self.now }
+    {
+        self.pc.wrapping_add(4)
+    }
+
+    /// Writes a register; register 0 stays 0.
+    fn set(&mut self, rd: u32, value: u32)
+        requires { rd < 32 }
+        ensures { self.new ≡ with_register self.old rd value }
+    {
+        if rd != 0 {
+            self.registers[rd as usize] = value;
+        }
+    }
+
+    fn retire_to(&mut self, target: u32)
+        requires { self.old.retired + 1 < 2 ^ 32 }
+        ensures { self.new ≡ retired_to self.old target }
+    {
+        self.pc = target;
+        self.retired += 1;
+    }
+
+    /// Ends it: an exit retires, a trap does not.
+    fn stop(&mut self, end: End)
+        requires { self.old.retired + 1 < 2 ^ 32 }
+        ensures { self.new ≡ ended self.old end }
+    {
+        if let End::Exited(_) = end {
+            self.retired += 1;
+        }
+        self.end = end;
+    }
+}
+
+fn trap(cause: Trap, value: u32) -> Need
+    ensures { result ≡ Stop (Trapped cause value) }
+{
+    Need::Stop {
+        end: End::Trapped { cause, value },
+    }
+}
+
+/// What a jump needs: nothing, or the trap of a target that is no multiple of 4.
+fn jump_need(target: u32) -> Need
+    ensures { result ≡ jump_need target }
+{
+    if target % 4 == 0 {
+        Need::Alu
+    } else {
+        trap(Trap::Misaligned, target)
+    }
+}
