@@ -1,5 +1,5 @@
 -- The text of a report, and the exit status of a run.
-use Rattle.std.specs.Prelude.{ℕ, ◌^◌, ◌-◌, Bool, false, List, [], ◌∷◌, ◌++◌, length, take, drop, codes, decimal, flat_map}
+use Rattle.std.specs.Prelude.{ℕ, ◌+◌, ◌^◌, ◌-◌, false, List, [], ◌∷◌, ◌++◌, length, slice_range, codes, decimal, flat_map}
 
 use Rattle.std.specs.Fmt.{digits, format_spec, padded_integral}
 use Rattle.dash_base.specs.declared.end.End.{End}
@@ -54,19 +54,19 @@ words_text words = flat_map (λ n. codes " " ++ hex n) words
 unfoldable pub register_line : List ℕ → List ℕ → List ℕ
 register_line label words = label ++ words_text words ++ newline
 
+-- eight registers from one on
 abbrev pub eight_from : ℕ → List ℕ → List ℕ
-eight_from first words = take 8 (drop first words)
-
-unfoldable pub register_lines : List ℕ → List ℕ
-register_lines words =
-    register_line (codes "x0") (eight_from 0 words) ++ register_line (codes "x8") (eight_from 8 words)
-    ++ register_line (codes "x16") (eight_from 16 words) ++ register_line (codes "x24") (eight_from 24 words)
+eight_from first registers = slice_range registers first (first + 8)
 
 unfoldable pub status_line : ℕ → List ℕ
 status_line status = codes "status " ++ decimal status ++ newline
 
-abbrev pub harts_section : HartState → List ℕ
-harts_section h = hart_line 0 h ++ register_lines h.registers ++ status_line (status_of h.end)
+unfoldable pub harts_section : HartState → List ℕ
+harts_section h =
+    hart_line 0 h
+    ++ register_line (codes "x0") (eight_from 0 h.registers) ++ register_line (codes "x8") (eight_from 8 h.registers)
+    ++ register_line (codes "x16") (eight_from 16 h.registers) ++ register_line (codes "x24") (eight_from 24 h.registers)
+    ++ status_line (status_of h.end)
 
 -- the report of a run that ended in this state
 abbrev pub report_of : FlatState → List ℕ

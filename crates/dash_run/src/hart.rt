@@ -30,7 +30,7 @@ impl Model for Hart {
 }
 
 impl Hart {
-    ghost use Rattle.std.specs.Prelude.{◌≡◌, ◌*◌, ◌<◌};
+    ghost use Rattle.std.specs.Prelude.{◌≡◌, ◌*◌, ◌<◌, length};
     ghost use Rattle.dash_run.specs.HartState.{can_go_on};
     ghost use Rattle.dash_run.specs.Access.{IsProper};
     ghost use Rattle.dash_run.specs.Meaning.{IsFound, IsServed, need_at};
@@ -61,7 +61,8 @@ impl Hart {
     }
 
     pub fn registers(&self) -> &[u32]
-        ensures { result.now ≡ self.now.registers }
+        ensures value { result.now ≡ self.now.registers }
+        ensures count { length result.now ≡ 32 }
     {
         &self.registers
     }

@@ -3,8 +3,10 @@
 
 mod access;
 mod alu;
+mod command_line;
 mod hart;
 mod memory;
 mod need;
+mod report;
 mod run;
 mod width;
