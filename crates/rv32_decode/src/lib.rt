@@ -4,8 +4,9 @@
 //! in `specs/Layout.antt`.
 #![tactic(auto)]
 
-ghost use Rattle.std.specs.Prelude.{◌≡◌, ◌≢◌, IfSome, IfNone, IsTrue};
+ghost use Rattle.std.specs.Prelude.{◌≡◌, IfSome, IsTrue};
 ghost use Rattle.dash_base.specs.declared.instr.Instr.{Instr};
+ghost use Rattle.rv32_decode.specs.Decoding.{IsDecoding};
 ghost use Rattle.rv32_decode.specs.Layout.{word_of};
 ghost use Rattle.rv32_decode.specs.Served.{is_served};
 
@@ -14,13 +15,21 @@ use fields::bits;
 
 mod fields;
 mod formats;
+pub mod laws;
 mod tables;
 
 /// The instruction that has this word. None where none has it, or none that is served.
 pub fn decode(word: u32) -> Option<Instr>
     ensures some { IfSome result (λ i. word_of i ≡ word) }
     ensures served { IfSome result (λ i. IsTrue (is_served i)) }
-    ensures none { IfNone result ((i : Instr) → IsTrue (is_served i) → word_of i ≢ word) }
+    ensures only { (i : Instr) → IsTrue (is_served i) → word_of i ≡ word → result ≡ Some i }
+{
+    row(word)
+}
+
+/// The row of the word's opcode.
+fn row(word: u32) -> Option<Instr>
+    ensures { IsDecoding word result }
 {
     match bits(word, 0, 7) {
         0b0110111 => Some(Instr::Lui(formats::upper(word))),

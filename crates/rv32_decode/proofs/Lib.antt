@@ -1,0 +1,2 @@
+mod SameFields
+pub mod Unique
