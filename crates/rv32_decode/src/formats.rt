@@ -124,7 +124,7 @@ fn shift(word: u32) -> Option<Instr>
     ensures { IsDecoding word result }
 {
     Some(Instr::OpImm(OpImm {
-        op: shift_op(bits(word, 25, 7), bits(word, 12, 3))?,
+        op: shift_op(bits(word, 12, 3), bits(word, 25, 7))?,
         rd: bits(word, 7, 5),
         rs1: bits(word, 15, 5),
         imm: bits(word, 20, 5) as i32,

@@ -74,18 +74,18 @@ pub fn immediate_op(funct3: u32) -> Option<AluOp>
     }
 }
 
-/// A shift by an immediate.
-pub fn shift_op(funct7: u32, funct3: u32) -> Option<AluOp>
-    ensures funct7 { IfSome result (λ op. alu_funct7 op ≡ funct7) }
+/// A shift by an immediate. Its funct7 is the upper part of the immediate.
+pub fn shift_op(funct3: u32, funct7: u32) -> Option<AluOp>
     ensures funct3 { IfSome result (λ op. alu_funct3 op ≡ funct3) }
+    ensures funct7 { IfSome result (λ op. alu_funct7 op ≡ funct7) }
     ensures shifts { IfSome result (λ op. IsTrue (is_shift op)) }
-    ensures none { IfNone result ((op : AluOp) → IsTrue (is_shift op) → alu_funct7 op ≡ funct7
-        → alu_funct3 op ≢ funct3) }
+    ensures none { IfNone result ((op : AluOp) → IsTrue (is_shift op) → alu_funct3 op ≡ funct3
+        → alu_funct7 op ≢ funct7) }
 {
-    match (funct7, funct3) {
-        (0b0000000, 0b001) => Some(AluOp::Sll),
-        (0b0000000, 0b101) => Some(AluOp::Srl),
-        (0b0100000, 0b101) => Some(AluOp::Sra),
+    match (funct3, funct7) {
+        (0b001, 0b0000000) => Some(AluOp::Sll),
+        (0b101, 0b0000000) => Some(AluOp::Srl),
+        (0b101, 0b0100000) => Some(AluOp::Sra),
         _ => None,
     }
 }
