@@ -1,5 +1,7 @@
 -- What contracts say of the outside: files, printed bytes, and counts of faults.
-use Rattle.std.specs.Prelude.{◌≡◌, ℕ, ◌+◌, ◌-◌, ◌^◌, ◌<◌, ◌≤◌, ◌⊎◌, List, ◌++◌, take, Option, IfSome, IsSomeAnd}
+use Rattle.std.specs.Prelude.{◌≡◌, ℕ, ◌+◌, ◌-◌, ◌^◌, ◌<◌, ◌≤◌, ◌⊎◌, List, ◌++◌, take, Option, IfSome, IsSomeAnd, Result, Ok, Err}
+use Rattle.dash_base.specs.declared.host.LoadFault.{LoadFault}
+use Rattle.dash_base.specs.declared.host.LoadFault.TheVariants as fault
 use Rattle.dash_base.specs.declared.host.Stream.{Stream}
 use Rattle.dash_base.specs.declared.host.Stream.TheVariants as stream
 
@@ -42,3 +44,8 @@ last_count = 2 ^ 64 - 1
 -- a count rose, or stands at its last value
 abbrev pub Rose : ℕ → ℕ → Type 0
 Rose old new = (old < new) ⊎ (last_count ≤ old)
+
+-- a load counts a fault where it answers `Failed`, and nothing else does
+abbrev pub CountsLoad : {A : Type 0} → Result A LoadFault → ℕ → ℕ → Type 0
+CountsLoad (Err fault.Failed) old new = Rose old new
+CountsLoad _ old new = new ≡ old

@@ -1,7 +1,7 @@
 //! The outside world, as the program sees it: files that are read whole, and two streams.
-ghost use Rattle.std.specs.Prelude.{◌≡◌, ℕ, ◌+◌, ◌<◌, ◌≤◌, List, length, Option, IfSome, IsSomeAnd, IfOk, OnOk, OnErr, Ok, Err, Some, IsErrOf, IsTrue, Bool, Result};
+ghost use Rattle.std.specs.Prelude.{◌≡◌, ℕ, ◌<◌, ◌≤◌, List, length, Option, IfSome, IsSomeAnd, IfOk, OnOk, OnErr, IsTrue, Bool};
 ghost use Rattle.std.specs.Prelude.{vec_len};
-ghost use Rattle.dash_base.specs.Outside.{Files, Printed, Appends, AppendsPart, Follows, Rose};
+ghost use Rattle.dash_base.specs.Outside.{Files, Printed, Appends, AppendsPart, Follows, Rose, CountsLoad};
 ghost use Rattle.dash_base.specs.declared.host.LoadFault.{LoadFault};
 
 use crate::memory::OutOfMemory;
@@ -71,8 +71,7 @@ pub trait Host {
             → IsSomeAnd (told name.now) (λ bytes. length bytes ≡ size)) }
 
         ensures counts { load_faults self.old ≤ load_faults self.new }
-        ensures failed { IsErrOf result LoadFault.Failed → Rose (load_faults self.old) (load_faults self.new) }
-        ensures rose { load_faults self.old < load_faults self.new → IsErrOf result LoadFault.Failed };
+        ensures counted { CountsLoad result (load_faults self.old) (load_faults self.new) };
 
     /// Prints bytes on a stream.
     fn print(&mut self, to: Stream, bytes: &[u8]) -> Result<(), Failed>
@@ -85,5 +84,5 @@ pub trait Host {
 
         ensures counts { print_faults self.old ≤ print_faults self.new }
         ensures failed { OnErr result (Rose (print_faults self.old) (print_faults self.new)) }
-        ensures rose { OnOk result (print_faults self.new ≡ print_faults self.old) };
+        ensures steady { OnOk result (print_faults self.new ≡ print_faults self.old) };
 }

@@ -1,3 +1,5 @@
 pub mod Shifts
 pub mod Opening
 pub mod Steps
+pub mod Answers
+pub mod Owing

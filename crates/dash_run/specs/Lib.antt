@@ -7,3 +7,4 @@ pub mod Held
 pub mod Report
 pub mod CommandLine
 pub mod Outcome
+pub mod Owed

@@ -1,5 +1,5 @@
 -- What a call of the program owes, and how it may end.
-use Rattle.std.specs.Prelude.{◌≡◌, ℕ, ◌^◌, ◌<◌, ◌≤◌, ◌⊎◌, List, [], ◌∷◌, ◌++◌, length, codes, decimal, Option, Some, None, IfSome, string_bytes}
+use Rattle.std.specs.Prelude.{◌≡◌, ℕ, ◌^◌, ◌<◌, ◌≤◌, ◌⊎◌, List, [], ◌∷◌, ◌++◌, length, codes, decimal, Option, Some, None, IfSome, IsSomeAnd}
 use Rattle.dash_base.specs.Outside.{Files, Printed, Appends, AppendsPart, Follows, Rose}
 use Rattle.dash_base.specs.Topology.{IsSimple}
 use Rattle.dash_base.specs.declared.host.Stream.{Stream}
@@ -23,11 +23,11 @@ usage_line =
     codes "dash: usage: dash run IMAGE [TOPOLOGY [--log] | CLUSTERS HARTS BUDGET [--log]] | dash gen SEED" ++ newline
 
 unfoldable pub failed_line : List ℕ → List ℕ
-failed_line name = codes "dash: " ++ name ++ codes ": read failed" ++ newline
+failed_line name = codes "dash: " ++ (name ++ (codes ": read failed" ++ newline))
 
 unfoldable pub large_line : List ℕ → ℕ → List ℕ
 large_line name size =
-    codes "dash: " ++ name ++ codes ": " ++ decimal size ++ codes " bytes, limit " ++ decimal image_limit ++ newline
+    codes "dash: " ++ (name ++ (codes ": " ++ (decimal size ++ (codes " bytes, limit " ++ (decimal image_limit ++ newline)))))
 
 abbrev pub refusal_text : LoadRefusal → List ℕ
 refusal_text (Short at) = codes "1 short at " ++ decimal at
@@ -74,7 +74,7 @@ pub record IsGiven (words : List (List ℕ)) (files : Option Files) (bytes : Lis
 pub record IsTooLarge (words : List (List ℕ)) (files : Option Files) (name : List ℕ) (size : ℕ) : Type 0 where
   pub named : image_name words ≡ Some name
   pub large : image_limit < size
-  pub told : IfSome files (λ file_at. (bytes : List ℕ) × (file_at name ≡ Some bytes) × (length bytes ≡ size))
+  pub told : IfSome files (λ file_at. IsSomeAnd (file_at name) (λ bytes. length bytes ≡ size))
 
 -- What a call owes, an exit status and one text on one stream, and why. The counts are the host's failed loads, before and after.
 pub data Owes (words : List (List ℕ)) (files : Option Files) (before after : ℕ) : ℕ → Stream → List ℕ → Type 0 where

@@ -1,12 +1,18 @@
 //! From the words of a command line to the printed report.
 #![tactic(auto)]
 
+pub use top::Ended;
+
 mod access;
 mod alu;
+mod answer;
 mod command_line;
 mod hart;
+mod lines;
 mod memory;
 mod need;
+mod owed;
 mod report;
 mod run;
+mod top;
 mod width;

@@ -1,0 +1,45 @@
+//! The top call: from words and a host to a printed report and an exit status.
+ghost use Rattle.std.specs.Prelude.{◌≡◌, ◌<◌, ◌⊎◌, IfOk, IfSome, IsSome, IsTrue, OnErr, OnOk, map, string_bytes};
+ghost use Rattle.dash_base.specs.Outside.{Appends, AppendsPart, Follows, Rose};
+ghost use Rattle.dash_run.specs.CommandLine.{image_name};
+ghost use Rattle.dash_run.specs.Outcome.{Owes, Ends};
+ghost use Rattle.dash_run.specs.Owed.{owed_status, owed_stream, owed_text};
+
+use crate::answer::answer;
+use crate::command_line::image_name;
+use crate::lines;
+use crate::owed::Owed;
+use dash_base::{Failed, Host, LoadFault, OutOfMemory, Stream};
+use std::alloc::Global;
+
+/// How a call ended.
+#[derive(Clone, Copy, Debug, PartialEq, Eq)]
+pub struct Ended {
+    /// The exit status: 0, 2, 3, 5, 6, 10 or 11.
+    pub status: u8,
+}
+
+/// Loads the image that the words name, and makes what is to be printed.
+fn prepare<H: Host>(alloc: Global, words: &[String], host: &mut H) -> Result<Owed, OutOfMemory>
+    requires { IfSome (image_name (map string_bytes words.now)) (λ name. IsTrue (H.may_load host.old name)) }
+    ensures owes { IfOk result (λ owed. Owes (map string_bytes words.now) (H.files host.old) (H.load_faults host.old) (H.load_faults host.new) (owed_status owed) (owed_stream owed) (owed_text owed)) }
+    ensures memory { OnErr result (IsSome (image_name (map string_bytes words.now))) }
+    ensures printed { H.printed host.new ≡ H.printed host.old }
+    ensures print_faults { H.print_faults host.new ≡ H.print_faults host.old }
+{
+    let Some(name) = image_name(words) else {
+        return Ok(Owed::Usage);
+    };
+    match host.load(alloc, name, lines::IMAGE_LIMIT) {
+        Ok(bytes) => Ok(answer(alloc, bytes)?),
+        Err(LoadFault::TooLarge { size }) => Ok(Owed::Line {
+            status: 5,
+            text: lines::too_large(alloc, name, size)?,
+        }),
+        Err(LoadFault::Failed) => Ok(Owed::Line {
+            status: 5,
+            text: lines::failed(alloc, name)?,
+        }),
+        Err(LoadFault::OutOfMemory) => Err(OutOfMemory),
+    }
+}
