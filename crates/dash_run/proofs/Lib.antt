@@ -3,3 +3,4 @@ pub mod Opening
 pub mod Steps
 pub mod Answers
 pub mod Owing
+pub mod Printing

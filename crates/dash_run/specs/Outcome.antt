@@ -1,5 +1,5 @@
 -- What a call of the program owes, and how it may end.
-use Rattle.std.specs.Prelude.{◌≡◌, ℕ, ◌^◌, ◌<◌, ◌≤◌, ◌⊎◌, List, [], ◌∷◌, ◌++◌, length, codes, decimal, Option, Some, None, IfSome, IsSomeAnd}
+use Rattle.std.specs.Prelude.{◌≡◌, ℕ, ◌^◌, ◌<◌, ◌≤◌, ◌⊎◌, List, [], ◌∷◌, ◌++◌, length, codes, decimal, Option, Some, None, IfSome, IsSome, IsSomeAnd}
 use Rattle.dash_base.specs.Outside.{Files, Printed, Appends, AppendsPart, Follows, Rose}
 use Rattle.dash_base.specs.Topology.{IsSimple}
 use Rattle.dash_base.specs.declared.host.Stream.{Stream}
@@ -107,5 +107,5 @@ pub data Ends (words : List (List ℕ)) (files : Option Files) (loads prints : C
   print_failed : (status : ℕ) (to : Stream) (text : List ℕ) → Owes words files loads.old loads.new status to text
       → Rose prints.old prints.new → Follows (AppendsPart to text) printed.old printed.new → Ends words files loads prints printed 5
   -- there was no memory: it printed nothing
-  out_of_memory : (name : List ℕ) → image_name words ≡ Some name
+  out_of_memory : IsSome (image_name words)
       → prints.new ≡ prints.old → printed.new ≡ printed.old → Ends words files loads prints printed 6

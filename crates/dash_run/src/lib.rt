@@ -1,7 +1,7 @@
 //! From the words of a command line to the printed report.
 #![tactic(auto)]
 
-pub use top::Ended;
+pub use top::{Ended, dash};
 
 mod access;
 mod alu;

@@ -14,3 +14,17 @@ pub enum Owed {
         harts: String,
     },
 }
+
+impl Owed {
+    ghost use Rattle.std.specs.Prelude.{◌≡◌};
+    ghost use Rattle.dash_run.specs.Owed.{owed_status};
+
+    pub fn status(&self) -> u8
+        ensures { result ≡ owed_status self.now }
+    {
+        match self {
+            Owed::Usage => 2,
+            Owed::Line { status, .. } | Owed::Report { status, .. } => *status,
+        }
+    }
+}

@@ -1,5 +1,6 @@
 //! The top call: from words and a host to a printed report and an exit status.
-ghost use Rattle.std.specs.Prelude.{◌≡◌, ◌<◌, ◌⊎◌, IfOk, IfSome, IsSome, IsTrue, OnErr, OnOk, map, string_bytes};
+ghost use Rattle.std.specs.Prelude.{◌≡◌, ◌++◌, IfOk, IfSome, IsSome, IsTrue, OnErr, OnOk, map, string_bytes};
+ghost use Rattle.dash_base.specs.declared.host.Stream.TheVariants as stream;
 ghost use Rattle.dash_base.specs.Outside.{Appends, AppendsPart, Follows, Rose};
 ghost use Rattle.dash_run.specs.CommandLine.{image_name};
 ghost use Rattle.dash_run.specs.Outcome.{Owes, Ends};
@@ -41,5 +42,54 @@ fn prepare<H: Host>(alloc: Global, words: &[String], host: &mut H) -> Result<Owe
             text: lines::failed(alloc, name)?,
         }),
         Err(LoadFault::OutOfMemory) => Err(OutOfMemory),
+    }
+}
+
+/// Prints what is owed.
+fn show<H: Host>(host: &mut H, owed: &Owed) -> Result<(), Failed>
+    ensures ok { OnOk result (Follows (Appends (owed_stream owed.now) (owed_text owed.now)) (H.printed host.old) (H.printed host.new)) }
+    ensures err { OnErr result (Follows (AppendsPart (owed_stream owed.now) (owed_text owed.now)) (H.printed host.old) (H.printed host.new)) }
+    ensures failed { OnErr result (Rose (H.print_faults host.old) (H.print_faults host.new)) }
+    ensures steady { OnOk result (H.print_faults host.new ≡ H.print_faults host.old) }
+    ensures load_faults { H.load_faults host.new ≡ H.load_faults host.old }
+{
+    match owed {
+        Owed::Usage => host.print(Stream::Err, lines::usage().as_bytes()),
+        Owed::Line { text, .. } => host.print(Stream::Err, text.as_bytes()),
+        Owed::Report { console, harts, .. } => {
+            print_both(host, console.as_slice(), harts.as_bytes())
+        }
+    }
+}
+
+/// Prints two texts on standard output, and not the second where the first fails.
+fn print_both<H: Host>(host: &mut H, first: &[u8], second: &[u8]) -> Result<(), Failed>
+    ensures ok { OnOk result (Follows (Appends stream.Out (first.now ++ second.now)) (H.printed host.old) (H.printed host.new)) }
+    ensures err { OnErr result (Follows (AppendsPart stream.Out (first.now ++ second.now)) (H.printed host.old) (H.printed host.new)) }
+    ensures failed { OnErr result (Rose (H.print_faults host.old) (H.print_faults host.new)) }
+    ensures steady { OnOk result (H.print_faults host.new ≡ H.print_faults host.old) }
+    ensures load_faults { H.load_faults host.new ≡ H.load_faults host.old }
+{
+    host.print(Stream::Out, first)?;
+    host.print(Stream::Out, second)?;
+    Ok(())
+}
+
+/// The top call: does what the words ask for, and prints the report or the line that it owes.
+pub fn dash<H: Host>(alloc: Global, words: &[String], host: &mut H) -> Ended
+    requires { IfSome (image_name (map string_bytes words.now)) (λ name. IsTrue (H.may_load host.old name)) }
+    ensures outcome { Ends (map string_bytes words.now) (H.files host.old)
+        (record { old = H.load_faults host.old; new = H.load_faults host.new })
+        (record { old = H.print_faults host.old; new = H.print_faults host.new })
+        (record { old = H.printed host.old; new = H.printed host.new }) result.status }
+{
+    match prepare(alloc, words, host) {
+        Ok(owed) => match show(host, &owed) {
+            Ok(()) => Ended {
+                status: owed.status(),
+            },
+            Err(Failed) => Ended { status: 5 },
+        },
+        Err(OutOfMemory) => Ended { status: 6 },
     }
 }
