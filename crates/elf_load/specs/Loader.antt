@@ -29,9 +29,13 @@ is_little_32 header = header.ei_class == 1 && header.ei_data == 1
 abbrev pub is_riscv_executable : FileHeader → Bool
 is_riscv_executable header = header.e_machine == 243 && header.e_type == 2
 
--- neither compressed instructions nor the reduced set of registers: EF_RISCV_RVC and EF_RISCV_RVE
-abbrev pub has_plain_flags : FileHeader → Bool
-has_plain_flags header = not (has_bit 0 header.e_flags) && not (has_bit 3 header.e_flags)
+-- code with compressed instructions: EF_RISCV_RVC
+abbrev pub is_compressed : FileHeader → Bool
+is_compressed header = has_bit 0 header.e_flags
+
+-- code for the reduced set of registers: EF_RISCV_RVE
+abbrev pub is_reduced : FileHeader → Bool
+is_reduced header = has_bit 3 header.e_flags
 
 -- one program header, of 32 bytes
 abbrev pub has_one_segment : FileHeader → Bool
@@ -66,7 +70,8 @@ first_program_header bytes = program_header bytes (file_header bytes).e_phoff
 -- the file is of the one kind that is served
 abbrev pub is_served_file : FileHeader → Bool
 is_served_file header =
-    is_little_32 header && is_riscv_executable header && has_plain_flags header && has_one_segment header
+    is_little_32 header && is_riscv_executable header && not (is_compressed header) && not (is_reduced header)
+    && has_one_segment header
 
 -- so is its segment, in a file of so many bytes with this entry
 abbrev pub is_served_segment : ProgramHeader → ℕ → ℕ → MemoryMap → Bool

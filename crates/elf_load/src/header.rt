@@ -4,6 +4,21 @@ ghost use Rattle.std.specs.Prelude.{◌≡◌, ◌+◌, ◌*◌, ◌≤◌, leng
 
 use byteorder::{ByteOrder, LittleEndian};
 
+/// `ei_class` of a file of 32 bits.
+pub const ELFCLASS32: u8 = 1;
+/// `ei_data` of a file with the lowest byte of a number first.
+pub const ELFDATA2LSB: u8 = 1;
+/// `e_type` of an executable.
+pub const ET_EXEC: u16 = 2;
+/// `e_machine` of RISC-V.
+pub const EM_RISCV: u16 = 243;
+/// The bit of `e_flags` for code with compressed instructions.
+pub const EF_RISCV_RVC: u32 = 1;
+/// The bit of `e_flags` for code with the reduced set of registers.
+pub const EF_RISCV_RVE: u32 = 8;
+/// `p_type` of a segment to load.
+pub const PT_LOAD: u32 = 1;
+
 /// The file header, of `FileHeader::SIZE` bytes at the start of the file.
 #[derive(Clone, Copy)]
 pub struct FileHeader {
@@ -79,6 +94,13 @@ impl ProgramHeader {
             p_memsz: word_at(bytes, place + 20),
             p_flags: word_at(bytes, place + 24),
         }
+    }
+
+    /// The address at which its segment ends in memory.
+    pub fn segment_end(self) -> u64
+        ensures { result ≡ self.p_vaddr + self.p_memsz }
+    {
+        u64::from(self.p_vaddr) + u64::from(self.p_memsz)
     }
 }
 

@@ -11,12 +11,12 @@ pub use loader::load;
 pub use memory_map::MemoryMap;
 pub use refusal::LoadRefusal;
 
-mod bits;
 mod header;
 mod image;
 mod loader;
 mod memory_map;
 mod refusal;
 mod segments;
+mod served;
 #[cfg(test)]
 mod tests;

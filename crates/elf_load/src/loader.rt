@@ -3,11 +3,11 @@ ghost use Rattle.std.specs.Prelude.{◌≡◌, ◌+◌, ◌*◌, ◌≤◌, IfOk
 ghost use Rattle.elf_load.specs.Header.{file_header, program_header};
 ghost use Rattle.elf_load.specs.Loader.{refusal_of, image_of, is_short, is_elf, is_supported, is_served_file, is_served_segment, first_program_header, segment_of, IsWhole, Refuses};
 
-use crate::bits::has_bit;
 use crate::header::{FileHeader, ProgramHeader};
 use crate::image::Image;
 use crate::memory_map::MemoryMap;
 use crate::refusal::LoadRefusal;
+use crate::served;
 use dash_base::{OutOfMemory, Segment};
 use std::alloc::Global;
 
@@ -69,36 +69,11 @@ fn is_supported(bytes: &[u8], map: MemoryMap) -> bool
     ensures { result ≡ is_supported bytes.now map }
 {
     let file = FileHeader::read(bytes);
-    is_served_file(file)
+    served::is_served_file(file)
         && {
             let program = ProgramHeader::read(bytes, file.e_phoff as usize);
-            is_served_segment(program, bytes.len(), file.e_entry, map)
+            served::is_served_segment(program, bytes.len(), file.e_entry, map)
         }
-}
-
-fn is_served_file(header: FileHeader) -> bool
-    ensures { result ≡ is_served_file header }
-{
-    let is_little_32 = header.ei_class == 1 && header.ei_data == 1;
-    let is_riscv_executable = header.e_machine == 243 && header.e_type == 2;
-    let has_plain_flags = !has_bit(header.e_flags, 0) && !has_bit(header.e_flags, 3);
-    let has_one_segment = header.e_phnum == 1 && header.e_phentsize == 32;
-    is_little_32 && is_riscv_executable && has_plain_flags && has_one_segment
-}
-
-fn is_served_segment(header: ProgramHeader, len: usize, entry: u32, map: MemoryMap) -> bool
-    ensures { result ≡ is_served_segment header len entry map }
-{
-    let file_end = header.p_offset as usize + header.p_filesz as usize;
-    let end = u64::from(header.p_vaddr) + u64::from(header.p_memsz);
-    let memory_end = u64::from(map.base) + u64::from(map.size);
-
-    let is_code = header.p_type == 1 && has_bit(header.p_flags, 0);
-    let lies_in_file = file_end <= len;
-    let is_full = header.p_filesz == header.p_memsz && header.p_filesz > 0;
-    let lies_in_memory = map.base <= header.p_vaddr && end <= memory_end;
-    let has_entry = entry % 4 == 0 && header.p_vaddr <= entry && u64::from(entry) + 4 <= end;
-    is_code && lies_in_file && is_full && lies_in_memory && has_entry
 }
 
 /// The image of a file whose headers and whose segment's bytes are all there.

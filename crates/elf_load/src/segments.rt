@@ -4,7 +4,6 @@ ghost use Rattle.dash_base.specs.Words.{word_of_bytes};
 ghost use Rattle.std.specs.List.{list_any};
 ghost use Rattle.elf_load.specs.Image.{holds, touches, HoldsWord, covers, meets, may_execute, may_write, is_code_at, is_constant_at, byte_among, word_among, words_among};
 
-use crate::bits::has_bit;
 use crate::memory_map::MemoryMap;
 use byteorder::{ByteOrder, LittleEndian};
 use dash_base::{OutOfMemory, Segment};
@@ -34,16 +33,19 @@ fn meets(segment: &Segment, address: u32, len: u32) -> bool
     u64::from(segment.vaddr.max(address)) < end.min(u64::from(address) + u64::from(len))
 }
 
+/// Whether the segment may be executed.
 fn may_execute(segment: &Segment) -> bool
     ensures { result ≡ may_execute segment.now }
 {
-    has_bit(segment.flags, 0)
+    segment.flags & Segment::EXECUTE != 0
 }
 
+/// Whether the segment may be written.
+#[tactic(auto, using(crate::proofs::Flags::and_two))]
 fn may_write(segment: &Segment) -> bool
     ensures { result ≡ may_write segment.now }
 {
-    has_bit(segment.flags, 1)
+    segment.flags & Segment::WRITE != 0
 }
 
 /// The first segment that has the address among the bytes that it begins with.
