@@ -1,3 +1,4 @@
+pub mod Constant
 pub mod Flags
 pub mod Touched
 pub mod Whole

@@ -1,5 +1,5 @@
 -- An image: its segments, the memory that a run of it opens with, and what may be executed and written.
-use Rattle.std.specs.Prelude.{◌≡◌, ◌≤◌, ℕ, ◌+◌, ◌-◌, ◌*◌, ◌/◌, min, max, Bool, ◌&&◌, not, nat_le, nat_lt, if◌then◌else◌, Option, Some, None, List, length, map, find, slice_index}
+use Rattle.std.specs.Prelude.{◌≡◌, ◌≤◌, ◌<◌, ℕ, ◌+◌, ◌-◌, ◌*◌, ◌/◌, min, max, Bool, ◌&&◌, not, nat_le, nat_lt, if◌then◌else◌, Option, Some, None, List, length, map, find, slice_index, Any, false}
 use Rattle.std.specs.List.{list_any, range_with_len}
 use Rattle.std.specs.Option.{option_map_or}
 use Rattle.dash_base.specs.Segment.{SegmentView}
@@ -80,6 +80,16 @@ fetched image pc =
 -- whether none of so many bytes from an address on is in a segment that may not be written
 unfoldable pub is_writable : ImageView → ℕ → ℕ → Bool
 is_writable image address len = not (list_any (is_constant_at address len) image.segments)
+
+-- an address lies in a segment that may not be written
+abbrev pub IsConstant : ℕ → SegmentView → Type 0
+IsConstant address s =
+    (s.vaddr ≤ address) × (address < s.vaddr + s.memsz) × (may_write s ≡ false)
+
+-- one of so many bytes from an address on lies in such a segment
+abbrev pub HasConstant : ImageView → ℕ → ℕ → Type 0
+HasConstant image address len =
+    (k : ℕ) × (k < len) × Any (IsConstant (address + k)) image.segments
 
 -- whether one of four bytes from an address on may be among those that a segment begins with
 abbrev pub touches : ℕ → SegmentView → Bool

@@ -1,6 +1,6 @@
 //! An image: the segments that were loaded.
-ghost use Rattle.std.specs.Prelude.{◌≡◌, IfOk};
-ghost use Rattle.elf_load.specs.Image.{ImageView, opening_byte, opening_word, opening_words, fetched, is_writable};
+ghost use Rattle.std.specs.Prelude.{◌≡◌, ◌*◌, ◌↔◌, false, IfOk, vec_len};
+ghost use Rattle.elf_load.specs.Image.{ImageView, opening_byte, opening_word, opening_words, fetched, is_writable, HasConstant};
 
 use crate::memory_map::MemoryMap;
 use crate::segments;
@@ -61,7 +61,8 @@ impl Image {
     /// Whether none of the `len` bytes from `address` on is in a segment that may not be written.
     #[tactic(auto, unfolding(crate::specs::Image::is_writable))]
     pub fn writable(&self, address: u32, len: u32) -> bool
-        ensures { result ≡ is_writable self.now address len }
+        ensures value { result ≡ is_writable self.now address len }
+        ensures refused { (result ≡ false) ↔ HasConstant self.now address len }
     {
         !segments::has_constant(&self.segments, address, len)
     }
@@ -82,7 +83,8 @@ impl Image {
 
     /// The words of the memory that a run opens with, from its lowest address on.
     pub fn opening_words(&self, alloc: Global, map: MemoryMap) -> Result<Vec<u32>, OutOfMemory>
-        ensures { IfOk result (λ words. words.items ≡ opening_words self.now map) }
+        ensures words { IfOk result (λ words. words.items ≡ opening_words self.now map) }
+        ensures len { IfOk result (λ words. vec_len words * 4 ≡ map.size) }
     {
         segments::words(alloc, &self.segments, map)
     }

@@ -1,5 +1,5 @@
 //! What a list of segments has at an address.
-ghost use Rattle.std.specs.Prelude.{◌≡◌, ◌+◌, ◌-◌, ◌*◌, ◌/◌, ◌<◌, ◌≤◌, ◌^◌, ◌&&◌, not, length, slice_index, Option, option_copied, find, IfOk, IfSome};
+ghost use Rattle.std.specs.Prelude.{◌≡◌, ◌+◌, ◌-◌, ◌*◌, ◌/◌, ◌<◌, ◌≤◌, ◌^◌, ◌&&◌, not, length, slice_index, Option, option_copied, find, IfOk, IfSome, vec_len};
 ghost use Rattle.dash_base.specs.Words.{word_of_bytes};
 ghost use Rattle.std.specs.List.{list_any};
 ghost use Rattle.elf_load.specs.Image.{holds, touches, HoldsWord, covers, meets, may_execute, may_write, is_code_at, is_constant_at, byte_among, word_among, words_among};
@@ -132,7 +132,8 @@ fn word_by_bytes(segments: &[Segment], address: u64) -> u32
 /// The words of the opening memory.
 #[tactic(auto, unfolding(crate::specs::Image::words_among))]
 pub fn words(alloc: Global, segments: &[Segment], map: MemoryMap) -> Result<Vec<u32>, OutOfMemory>
-    ensures { IfOk result (λ words. words.items ≡ words_among segments.now map) }
+    ensures words { IfOk result (λ words. words.items ≡ words_among segments.now map) }
+    ensures len { IfOk result (λ words. vec_len words * 4 ≡ map.size) }
 {
     Ok(
         (0..map.size / 4)
