@@ -1,11 +1,10 @@
 -- The word at an address: that of the first segment which it touches, where that segment begins with
 -- all four bytes, and 0 where it touches none.
-use Rattle.std.proofs.Common.{◌≡◌, ◌≤◌, ◌<◌, ◌+◌, ◌-◌, ◌*◌, ◌^◌, ℕ, Bool, true, false, cond, List, [], ◌∷◌, length, Option, Some, None, find, slice_index, refl, sym, ap, ◌∙◌, subst, arith}
+use Rattle.std.proofs.Common.{◌≡◌, ◌≤◌, ◌<◌, ◌+◌, ◌-◌, ℕ, Bool, true, false, cond, List, [], ◌∷◌, length, Option, Some, None, find, slice_index, refl, sym, ap, ◌∙◌, subst, arith}
 use Rattle.std.specs.Option.{option_map_or}
 use Rattle.std.proofs.lemmas.Bool.Decides.{nat_tests}
 use Rattle.dash_base.specs.Segment.{SegmentView}
-use Rattle.dash_base.specs.Words.{word_of_bytes}
-use Rattle.elf_load.specs.Image.{holds, touches, byte_among, word_among, word_in, HoldsWord}
+use Rattle.elf_load.specs.Image.{holds, touches, byte_among, word_among, HoldsWord}
 
 -- the value at a choice is the choice of the values
 map_or-cond : (f : SegmentView → ℕ) (b : Bool) (s : SegmentView) (o : Option SegmentView) → option_map_or f (cond b (Some s) o) 0 ≡ cond b (f s) (option_map_or f o 0)

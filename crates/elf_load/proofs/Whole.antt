@@ -1,5 +1,5 @@
 -- A file that is not refused has all that its image is made of.
-use Rattle.std.proofs.Common.{◌≡◌, ◌≤◌, ◌+◌, ◌*◌, ℕ, Bool, true, false, ◌&&◌, not, if◌then◌else◌, List, length, Option, Some, None, refl, arith}
+use Rattle.std.proofs.Common.{◌≡◌, ◌≤◌, ◌+◌, ◌*◌, ℕ, Bool, true, false, ◌&&◌, not, if◌then◌else◌, List, length, Some, None, refl, arith}
 use Rattle.std.proofs.lemmas.Bool.Decides.{nat_tests}
 use Rattle.elf_load.specs.Header.{file_header}
 use Rattle.elf_load.specs.Loader.{refusal_of, IsWhole, first_program_header, is_short, is_elf, is_supported, is_served_file, is_served_segment}

@@ -1,5 +1,5 @@
 -- The fields of an ELF file of 32 bits that the loader looks at (System V ABI, "ELF Header" and "Program Header").
-use Rattle.std.specs.Prelude.{ℕ, ◌+◌, ◌*◌, List, drop, slice_index}
+use Rattle.std.specs.Prelude.{ℕ, ◌+◌, List, drop, slice_index}
 use Rattle.byteorder.specs.Endian.{little_number}
 use Rattle.elf_load.specs.declared.header.FileHeader.{FileHeader}
 use Rattle.elf_load.specs.declared.header.ProgramHeader.{ProgramHeader}
