@@ -1,4 +1,4 @@
-pub mod Constant
 pub mod Flags
+pub mod ReadOnly
 pub mod Touched
 pub mod Whole

@@ -4,7 +4,8 @@ use Rattle.std.proofs.Common.{◌≡◌, ◌≤◌, ◌<◌, ◌+◌, ◌-◌, �
 use Rattle.std.specs.Option.{option_map_or}
 use Rattle.std.proofs.lemmas.Bool.Decides.{nat_tests}
 use Rattle.dash_base.specs.Segment.{SegmentView}
-use Rattle.elf_load.specs.Image.{holds, touches, byte_among, word_among, HoldsWord}
+use Rattle.elf_load.specs.Image.{holds, byte_among, word_among}
+use Rattle.elf_load.specs.Touched.{touches, HoldsWord}
 
 -- the value at a choice is the choice of the values
 map_or-cond : (f : SegmentView → ℕ) (b : Bool) (s : SegmentView) (o : Option SegmentView) → option_map_or f (cond b (Some s) o) 0 ≡ cond b (f s) (option_map_or f o 0)

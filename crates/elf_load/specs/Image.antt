@@ -1,4 +1,4 @@
--- An image: its segments, the memory that a run of it opens with, and what may be executed and written.
+-- An image: its segments, the memory that a run of it opens with, and what of it may be executed and written.
 use Rattle.std.specs.Prelude.{◌≡◌, ◌≤◌, ◌<◌, ℕ, ◌+◌, ◌-◌, ◌*◌, ◌/◌, min, max, Bool, ◌&&◌, not, nat_le, nat_lt, if◌then◌else◌, Option, Some, None, List, length, map, find, slice_index, Any, false}
 use Rattle.std.specs.List.{list_any, range_with_len}
 use Rattle.std.specs.Option.{option_map_or}
@@ -15,11 +15,6 @@ pub record ImageView : Type 0 where
 -- whether an address is one of the bytes that a segment begins with
 abbrev pub holds : ℕ → SegmentView → Bool
 holds address s = nat_le s.vaddr address && nat_lt address (s.vaddr + length s.bytes)
-
--- the word of four of a list's bytes, from a place on, the lowest first
-abbrev pub word_in : List ℕ → ℕ → ℕ
-word_in bytes place =
-    word_of_bytes (slice_index bytes place) (slice_index bytes (place + 1)) (slice_index bytes (place + 2)) (slice_index bytes (place + 3))
 
 -- the byte of the first segment that holds the address within its bytes, and 0 elsewhere
 unfoldable pub byte_among : List SegmentView → ℕ → ℕ
@@ -69,8 +64,8 @@ abbrev pub is_code_at : ℕ → SegmentView → Bool
 is_code_at address s = may_execute s && covers address 4 s
 
 -- whether one of so many bytes from an address on lies in a segment, which may not be written
-abbrev pub is_constant_at : ℕ → ℕ → SegmentView → Bool
-is_constant_at address len s = not (may_write s) && meets address len s
+abbrev pub is_read_only_at : ℕ → ℕ → SegmentView → Bool
+is_read_only_at address len s = not (may_write s) && meets address len s
 
 -- the word at an address whose four bytes are all in one segment that may be executed
 unfoldable pub fetched : ImageView → ℕ → Option ℕ
@@ -79,24 +74,14 @@ fetched image pc =
 
 -- whether none of so many bytes from an address on is in a segment that may not be written
 unfoldable pub is_writable : ImageView → ℕ → ℕ → Bool
-is_writable image address len = not (list_any (is_constant_at address len) image.segments)
+is_writable image address len = not (list_any (is_read_only_at address len) image.segments)
 
 -- an address lies in a segment that may not be written
-abbrev pub IsConstant : ℕ → SegmentView → Type 0
-IsConstant address s =
+abbrev pub IsReadOnly : ℕ → SegmentView → Type 0
+IsReadOnly address s =
     (s.vaddr ≤ address) × (address < s.vaddr + s.memsz) × (may_write s ≡ false)
 
 -- one of so many bytes from an address on lies in such a segment
-abbrev pub HasConstant : ImageView → ℕ → ℕ → Type 0
-HasConstant image address len =
-    (k : ℕ) × (k < len) × Any (IsConstant (address + k)) image.segments
-
--- whether one of four bytes from an address on may be among those that a segment begins with
-abbrev pub touches : ℕ → SegmentView → Bool
-touches address s = nat_lt s.vaddr (address + 4) && nat_lt address (s.vaddr + length s.bytes)
-
--- four bytes from an address on are among those that a segment begins with, and make this word
-pub record HoldsWord (word address : ℕ) (s : SegmentView) : Type 0 where
-  pub start : s.vaddr ≤ address
-  pub end : address + 4 ≤ s.vaddr + length s.bytes
-  pub is : word ≡ word_in s.bytes (address - s.vaddr)
+abbrev pub HasReadOnlyByte : ImageView → ℕ → ℕ → Type 0
+HasReadOnlyByte image address len =
+    (k : ℕ) × (k < len) × Any (IsReadOnly (address + k)) image.segments

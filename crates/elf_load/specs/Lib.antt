@@ -1,4 +1,5 @@
 pub mod Bits
 pub mod Image
+pub mod Touched
 pub mod Header
 pub mod Loader

@@ -1,6 +1,7 @@
 //! The headers of an ELF file of 32 bits: the fields that the loader looks at, under their names in
 //! the System V ABI.
 ghost use Rattle.std.specs.Prelude.{◌≡◌, ◌+◌, ◌*◌, ◌≤◌, length};
+ghost use Rattle.elf_load.specs.Header.{half_at, word_at, file_header, program_header};
 
 use byteorder::{ByteOrder, LittleEndian};
 
@@ -45,8 +46,6 @@ pub struct ProgramHeader {
 }
 
 impl FileHeader {
-    ghost use Rattle.elf_load.specs.Header.{file_header};
-
     /// The number of its bytes.
     pub const SIZE: usize = 52;
 
@@ -76,8 +75,6 @@ impl FileHeader {
 }
 
 impl ProgramHeader {
-    ghost use Rattle.elf_load.specs.Header.{program_header};
-
     /// The number of its bytes.
     pub const SIZE: usize = 32;
 
@@ -103,8 +100,6 @@ impl ProgramHeader {
         u64::from(self.p_vaddr) + u64::from(self.p_memsz)
     }
 }
-
-ghost use Rattle.elf_load.specs.Header.{half_at, word_at};
 
 /// The number in two bytes, the lowest first.
 #[tactic(auto, unfolding(crate::specs::Header::half_at))]

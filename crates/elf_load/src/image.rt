@@ -1,6 +1,6 @@
 //! An image: the segments that were loaded.
 ghost use Rattle.std.specs.Prelude.{◌≡◌, ◌*◌, ◌↔◌, false, IfOk, vec_len};
-ghost use Rattle.elf_load.specs.Image.{ImageView, opening_byte, opening_word, opening_words, fetched, is_writable, HasConstant};
+ghost use Rattle.elf_load.specs.Image.{ImageView, opening_byte, opening_word, opening_words, fetched, is_writable, HasReadOnlyByte};
 
 use crate::memory_map::MemoryMap;
 use crate::segments;
@@ -62,9 +62,9 @@ impl Image {
     #[tactic(auto, unfolding(crate::specs::Image::is_writable))]
     pub fn writable(&self, address: u32, len: u32) -> bool
         ensures value { result ≡ is_writable self.now address len }
-        ensures refused { (result ≡ false) ↔ HasConstant self.now address len }
+        ensures refused { (result ≡ false) ↔ HasReadOnlyByte self.now address len }
     {
-        !segments::has_constant(&self.segments, address, len)
+        !segments::has_read_only(&self.segments, address, len)
     }
 
     /// The byte at `address` of the memory that a run opens with: 0 where no segment has one.

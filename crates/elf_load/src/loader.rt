@@ -1,7 +1,6 @@
 //! The loader.
-ghost use Rattle.std.specs.Prelude.{◌≡◌, ◌+◌, ◌*◌, ◌≤◌, IfOk, IfErr, Option, None, false, length};
-ghost use Rattle.elf_load.specs.Header.{file_header, program_header};
-ghost use Rattle.elf_load.specs.Loader.{refusal_of, image_of, is_short, is_elf, is_supported, is_served_file, is_served_segment, first_program_header, segment_of, IsWhole, Refuses};
+ghost use Rattle.std.specs.Prelude.{◌≡◌, ◌+◌, ◌≤◌, IfOk, IfErr, false, length};
+ghost use Rattle.elf_load.specs.Loader.{refusal_of, image_of, is_short, is_elf, is_supported, segment_of, IsWhole, Refuses};
 
 use crate::header::{FileHeader, ProgramHeader};
 use crate::image::Image;
@@ -11,14 +10,22 @@ use crate::served;
 use dash_base::{OutOfMemory, Segment};
 use std::alloc::Global;
 
-/// Loads an executable file of 32 bits for RISC-V into the memory that `map` says.
+/// Reads an executable file (System V ABI, "ELF Header" and "Program Header") whose segment is to lie
+/// in the memory that `map` says.
 ///
 /// # Errors
 ///
-/// The first of these that applies: `Short` where the file has fewer than 52 bytes or ends before its
-/// program headers do, `NotElf` where it does not begin with 7F 45 4C 46, and `Unsupported` where it
-/// is no executable for RISC-V with one segment, which holds code, has all its bytes in the file, lies
-/// in memory and has the entry, a multiple of 4. `OutOfMemory` may come in place of any of them.
+/// The first of these that applies. Fields that are not named here may hold anything.
+///
+/// - `Short { at }`: the file has fewer than 52 bytes, or fewer than `e_phoff + 32 * e_phnum`. `at` is
+///   its length.
+/// - `NotElf`: the first four bytes are not 7F 45 4C 46.
+/// - `Unsupported`: one of these fails. Bytes 4 and 5 are 1. `e_machine` is 243, and `e_type` is 2. Bits
+///   0 and 3 of `e_flags` are clear. `e_phnum` is 1, and `e_phentsize` is 32. `p_type` is 1, and bit 0
+///   of `p_flags` is set. The `p_filesz` bytes from `p_offset` on lie in the file. `p_filesz` is
+///   `p_memsz` and above 0. The `p_memsz` bytes from the address `p_vaddr` on lie in memory. `e_entry`
+///   is a multiple of 4, and its four bytes lie in the segment.
+/// - `OutOfMemory`, which may come in place of any of these, and of an image.
 #[tactic(auto, using(crate::proofs::Whole::accepted_is_whole))]
 pub fn load(alloc: Global, bytes: &[u8], map: MemoryMap) -> Result<Image, LoadRefusal>
     ensures ok { IfOk result (λ image.

@@ -1,8 +1,8 @@
 //! What a list of segments has at an address.
-ghost use Rattle.std.specs.Prelude.{◌≡◌, ◌+◌, ◌-◌, ◌*◌, ◌/◌, ◌<◌, ◌≤◌, ◌^◌, ◌&&◌, not, length, slice_index, Option, option_copied, find, IfOk, IfSome, vec_len};
-ghost use Rattle.dash_base.specs.Words.{word_of_bytes};
+ghost use Rattle.std.specs.Prelude.{◌≡◌, ◌+◌, ◌*◌, ◌<◌, ◌≤◌, ◌^◌, length, option_copied, find, IfOk, IfSome, vec_len};
 ghost use Rattle.std.specs.List.{list_any};
-ghost use Rattle.elf_load.specs.Image.{holds, touches, HoldsWord, covers, meets, may_execute, may_write, is_code_at, is_constant_at, byte_among, word_among, words_among};
+ghost use Rattle.elf_load.specs.Touched.{touches, HoldsWord};
+ghost use Rattle.elf_load.specs.Image.{holds, covers, meets, may_execute, may_write, is_code_at, is_read_only_at, byte_among, word_among, words_among};
 
 use crate::memory_map::MemoryMap;
 use byteorder::{ByteOrder, LittleEndian};
@@ -152,8 +152,8 @@ pub fn has_code(segments: &[Segment], pc: u32) -> bool
 }
 
 /// Whether one of the bytes from an address on is in a segment that may not be written.
-pub fn has_constant(segments: &[Segment], address: u32, len: u32) -> bool
-    ensures { result ≡ list_any (is_constant_at address len) segments.now }
+pub fn has_read_only(segments: &[Segment], address: u32, len: u32) -> bool
+    ensures { result ≡ list_any (is_read_only_at address len) segments.now }
 {
     segments.iter().any(|segment| !may_write(segment) && meets(segment, address, len))
 }

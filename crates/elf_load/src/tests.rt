@@ -17,7 +17,7 @@ static HEADERS: [u8; 84] = [
     5, 0, 0, 0, 1, 0, 0, 0, // p_flags, p_align
 ];
 
-/// Its instructions: the program prints "hi" and exits.
+/// Its instructions: the program prints "ok" and exits.
 static WORDS: [u32; 8] = [
     0x06f0_0513,
     0x0010_0893,

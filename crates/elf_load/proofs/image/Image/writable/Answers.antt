@@ -1,10 +1,10 @@
 -- The refused ranges are those with a byte in a segment that may not be written.
 use Rattle.std.proofs.Common.{rules}
 use Rattle.elf_load.specs.Image.{is_writable}
-use Rattle.elf_load.proofs.Constant.{refused_constant}
+use Rattle.elf_load.proofs.ReadOnly.{refused_read_only}
 use Rattle.elf_load.proofs.image.Image.writable.Goals as goal
 
 pub returns-clause-refused : goal.returns-clause-refused
 unfolding is_writable
 returns-clause-refused c =
-    refused_constant _ c.args.self.now c.args.address c.args.len (search rules)
+    refused_read_only _ c.args.self.now c.args.address c.args.len (search rules)
