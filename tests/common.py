@@ -95,7 +95,8 @@ class Folder:
         shutil.rmtree(self.path)
 
     def at(self, name):
-        return os.path.join(os.fsencode(self.path), os.fsencode(name))
+        """The path of that name in the folder, as bytes: in UTF-8, whatever the locale is."""
+        return os.path.join(os.fsencode(self.path), name.encode())
 
     def write(self, name, data):
         with open(self.at(name), "wb") as file:
