@@ -16,8 +16,8 @@ opening_held image t m base size aligned = record {
     whole = let count : length (opening_words image m) ≡ m.size / 4 = length-map-range_with_len _ _ _ in omega (arith, count, size, aligned);
   };
   each = λ i inside.
-    let count : length (opening_words image m) ≡ m.size / 4 = length-map-range_with_len _ _ _ in
-    let within : i < m.size / 4 = omega (arith, count, inside) in
-    get_or-map-range_with_len (λ i. opening_word image (m.base + 4 * i)) 0 (m.size / 4) i i 0 within (omega arith)
-    ∙ ap (λ b. opening_word image (b + 4 * i)) base;
+      let count : length (opening_words image m) ≡ m.size / 4 = length-map-range_with_len _ _ _ in
+      let within : i < m.size / 4 = omega (arith, count, inside) in
+      get_or-map-range_with_len (λ i. opening_word image (m.base + 4 * i)) 0 (m.size / 4) i i 0 within (omega arith)
+      ∙ ap (λ b. opening_word image (b + 4 * i)) base;
 }

@@ -25,11 +25,11 @@ reached_on image t hart hart' stored stored' console console' need goes reached 
     let old : FlatState = record { hart = hart; memory = flat; console = console } in
     let new : FlatState = record { hart = hart'; memory = memory_after flat need; console = console' } in
     let same_hart : hart' ≡ after_need hart done.found now (answer_of flat now) =
-        done.hart flat reached.held ∙ ap (λ n. after_need hart done.found n (answer_of flat n)) done.needs in
+    done.hart flat reached.held ∙ ap (λ n. after_need hart done.found n (answer_of flat n)) done.needs in
     let same_memory : memory_after flat need ≡ memory_after flat now = ap (λ n. memory_after flat n) done.needs in
     let same_console : console' ≡ console_after console now = put ∙ ap (λ n. console_after console n) done.needs in
     let same : new ≡ state_after old done.found now =
-        λ i. record { hart = same_hart i; memory = same_memory i; console = same_console i } in
+    λ i. record { hart = same_hart i; memory = same_memory i; console = same_console i } in
     record {
       flat = memory_after flat need;
       held = done.memory flat reached.held;

@@ -1,6 +1,5 @@
 -- The text of a report, and the exit status of a run.
 use Rattle.std.specs.Prelude.{ℕ, ◌+◌, ◌^◌, ◌-◌, false, List, [], ◌∷◌, ◌++◌, length, slice_range, codes, decimal, flat_map}
-
 use Rattle.std.specs.Fmt.{digits, format_spec, padded_integral}
 use Rattle.dash_base.specs.declared.end.End.{End}
 use Rattle.dash_base.specs.declared.end.End.TheVariants.{Running, Exited, Trapped}

@@ -25,13 +25,7 @@ pub fn load_need(image: &Image, topology: &Topology, op: LoadOp, address: u32) -
 }
 
 /// What a store of the low bytes of a value to an address needs.
-pub fn store_need(
-    image: &Image,
-    topology: &Topology,
-    op: StoreOp,
-    address: u32,
-    value: u32,
-) -> Need
+pub fn store_need(image: &Image, topology: &Topology, op: StoreOp, address: u32, value: u32) -> Need
     ensures need { result ≡ store_need image.now topology.now address (store_width op) value }
     ensures proper { IsProper topology.now result }
 {

@@ -18,11 +18,18 @@ pub enum Need {
     /// Nothing from outside the hart.
     Alu,
     /// A byte is to go to the console.
-    Put { byte: u8 },
+    Put {
+        byte: u8,
+    },
     /// The hart ends.
-    Stop { end: End },
+    Stop {
+        end: End,
+    },
     /// Bytes of a word of memory are to be read.
-    Load { word: WordAddr, mask: Mask },
+    Load {
+        word: WordAddr,
+        mask: Mask,
+    },
     /// Bytes of `value`, which stand in their places in the word, are to be written.
     Store {
         word: WordAddr,

@@ -6,7 +6,10 @@ pub enum Owed {
     /// Status 2, and the usage line on standard error.
     Usage,
     /// A line on standard error.
-    Line { status: u8, text: String },
+    Line {
+        status: u8,
+        text: String,
+    },
     /// The two sections of a report on standard output.
     Report {
         status: u8,
