@@ -4,3 +4,6 @@ pub mod Steps
 pub mod Answers
 pub mod Owing
 pub mod Printing
+pub mod Causes
+pub mod Converses
+pub mod Maps

@@ -1,6 +1,6 @@
 -- What a call of the program owes, and how it may end.
 use Rattle.std.specs.Prelude.{◌≡◌, ℕ, ◌^◌, ◌<◌, ◌≤◌, ◌⊎◌, List, [], ◌∷◌, ◌++◌, length, codes, decimal, Option, Some, None, IfSome, IsSome, IsSomeAnd}
-use Rattle.dash_base.specs.Outside.{Files, Printed, Appends, AppendsPart, Follows, Rose}
+use Rattle.dash_base.specs.Outside.{Files, Printed, Appends, AppendsPart, Follows, Rose, last_count}
 use Rattle.dash_base.specs.Topology.{IsSimple}
 use Rattle.dash_base.specs.declared.host.Stream.{Stream}
 use Rattle.dash_base.specs.declared.host.Stream.TheVariants as stream
@@ -109,3 +109,50 @@ pub data Ends (words : List (List ℕ)) (files : Option Files) (loads prints : C
   -- there was no memory: it printed nothing
   out_of_memory : IsSome (image_name words)
       → prints.new ≡ prints.old → printed.new ≡ printed.old → Ends words files loads prints printed 6
+
+-- the exit statuses of a run
+abbrev pub IsRunStatus : ℕ → Type 0
+IsRunStatus status = (status ≡ 0) ⊎ (status ≡ 10) ⊎ (status ≡ 11)
+
+-- no refusal applies to a file with these bytes
+abbrev pub IsAccepted : List ℕ → Type 0
+IsAccepted bytes = (refusal : LoadRefusal) → IsRefused bytes refusal → ⊥
+
+-- the words name an image that is refused
+pub record NamesRefused (words : List (List ℕ)) (files : Option Files) : Type 0 where
+  pub bytes : List ℕ
+  pub given : IsGiven words files bytes
+  pub refusal : LoadRefusal
+  pub refused : IsRefused bytes refusal
+
+-- the words name an image whose whole run ends with this status
+pub record NamesRun (words : List (List ℕ)) (files : Option Files) (status : ℕ) : Type 0 where
+  pub bytes : List ℕ
+  pub given : IsGiven words files bytes
+  pub text : List ℕ
+  pub reported : IsReported bytes status text
+
+-- the words name an image that is larger than the limit
+pub record NamesLarge (words : List (List ℕ)) (files : Option Files) : Type 0 where
+  pub name : List ℕ
+  pub size : ℕ
+  pub large : IsTooLarge words files name size
+
+-- the causes of status 5
+abbrev pub IsFault : List (List ℕ) → Option Files → Change ℕ → Change ℕ → Type 0
+IsFault words files loads prints = Rose loads.old loads.new ⊎ Rose prints.old prints.new ⊎ NamesLarge words files
+
+-- a count stood still, below its last value
+pub record IsSteady (count : Change ℕ) : Type 0 where
+  pub same : count.new ≡ count.old
+  pub below : count.old < last_count
+
+-- a call in which no fault was counted, whose words name an image with these bytes, where the host tells its files
+pub record IsClean (words : List (List ℕ)) (files : Option Files) (loads prints : Change ℕ) (bytes : List ℕ) : Type 0 where
+  pub file_at : Files
+  pub told : files ≡ Some file_at
+  pub name : List ℕ
+  pub named : image_name words ≡ Some name
+  pub there : file_at name ≡ Some bytes
+  pub loads_steady : IsSteady loads
+  pub prints_steady : IsSteady prints
