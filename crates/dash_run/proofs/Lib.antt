@@ -6,4 +6,5 @@ pub mod Owing
 pub mod Printing
 pub mod Causes
 pub mod Converses
+pub mod Determined
 pub mod Maps

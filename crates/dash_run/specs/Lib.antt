@@ -8,3 +8,4 @@ pub mod Report
 pub mod CommandLine
 pub mod Outcome
 pub mod Owed
+pub mod Laws

@@ -8,6 +8,7 @@ mod alu;
 mod answer;
 mod command_line;
 mod hart;
+pub mod laws;
 mod lines;
 mod memory;
 mod need;
