@@ -31,7 +31,7 @@ pub same_bytes : (words : List (List ℕ)) (files : Option Files) (loads prints 
 same_bytes words files loads prints bytes other clean given =
     let same_name : given.name ≡ clean.name = some_injective _ _ (sym given.named ∙ clean.named) in
     let told : clean.file_at given.name ≡ Some other =
-        (let from : Option Files → Type 0 = λ f. IfSome f (λ file_at. file_at given.name ≡ Some other) in subst from clean.told given.told) in
+    (let from : Option Files → Type 0 = λ f. IfSome f (λ file_at. file_at given.name ≡ Some other) in subst from clean.told given.told) in
     some_injective _ _ (sym told ∙ ap clean.file_at same_name ∙ clean.there)
 
 pub size_of_some : (o : Option (List ℕ)) (bytes : List ℕ) (size : ℕ) → o ≡ Some bytes → IsSomeAnd o (λ b. length b ≡ size) → length bytes ≡ size
@@ -44,7 +44,7 @@ pub same_size : (words : List (List ℕ)) (files : Option Files) (loads prints :
 same_size words files loads prints bytes name size clean is =
     let same_name : name ≡ clean.name = some_injective _ _ (sym is.named ∙ clean.named) in
     let told : IsSomeAnd (clean.file_at name) (λ b. length b ≡ size) =
-        (let from : Option Files → Type 0 = λ f. IfSome f (λ file_at. IsSomeAnd (file_at name) (λ b. length b ≡ size)) in subst from clean.told is.told) in
+    (let from : Option Files → Type 0 = λ f. IfSome f (λ file_at. IsSomeAnd (file_at name) (λ b. length b ≡ size)) in subst from clean.told is.told) in
     size_of_some (clean.file_at name) bytes size (ap clean.file_at same_name ∙ clean.there) told
 
 -- a file is not both refused and reported

@@ -25,9 +25,10 @@ one_found image pc (This i) (This j) a b = ap This (one_word i j (some_injective
 pub one_step : (image : ImageView) (t : Topology) (s a b : FlatState) (r q : StepRecord)
     → IsFlatStep image t s r a → IsFlatStep image t s q b → (r ≡ q) × (a ≡ b)
 one_step image t s a b r q first second =
-    let same : first.found ≡ second.found = one_found image s.hart.pc first.found second.found first.is_found second.is_found in
-    (first.recorded ∙ ap (λ f. record_of (need_at image t s.hart f) (answer_of s.memory (need_at image t s.hart f))) same ∙ sym second.recorded,
-     first.after ∙ ap (λ f. state_after s f (need_at image t s.hart f)) same ∙ sym second.after)
+    let same : first.found ≡ second.found = one_found image s.hart.pc first.found second.found first.is_found second.is_found in (
+      first.recorded ∙ ap (λ f. record_of (need_at image t s.hart f) (answer_of s.memory (need_at image t s.hart f))) same ∙ sym second.recorded,
+      first.after ∙ ap (λ f. state_after s f (need_at image t s.hart f)) same ∙ sym second.after,
+    )
 
 -- a hart that rests takes no step
 pub rests_or_goes : (t : Topology) (a s : FlatState) → a ≡ s → can_go_on t a.hart ≡ false → can_go_on t s.hart ≡ true → ⊥

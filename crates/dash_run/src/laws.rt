@@ -5,5 +5,4 @@ ghost use Rattle.dash_run.specs.Laws.{OneWholeRun};
 /// determined by the image and the topology, and so is the report.
 pub fn one_whole_run()
     ensures { OneWholeRun }
-{
-}
+{}

@@ -15,5 +15,7 @@ mod need;
 mod owed;
 mod report;
 mod run;
+#[cfg(test)]
+mod tests;
 mod top;
 mod width;
