@@ -1,5 +1,5 @@
 -- What contracts say of the outside: files, printed bytes, and counts of faults.
-use Rattle.std.specs.Prelude.{◌≡◌, ℕ, ◌+◌, ◌-◌, ◌^◌, ◌<◌, ◌≤◌, ◌⊎◌, List, ◌++◌, take, Option, IfSome, IsSomeAnd, Result, Ok, Err}
+use Rattle.std.specs.Prelude.{◌≡◌, ℕ, ◌-◌, ◌^◌, ◌<◌, ◌≤◌, ◌⊎◌, List, ◌++◌, take, Option, IfSome, IsSomeAnd, Result, Err}
 use Rattle.dash_base.specs.declared.host.LoadFault.{LoadFault}
 use Rattle.dash_base.specs.declared.host.LoadFault.TheVariants as fault
 use Rattle.dash_base.specs.declared.host.Stream.{Stream}

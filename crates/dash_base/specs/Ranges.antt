@@ -1,7 +1,7 @@
 -- The ranges that the fields of an instruction keep.
 use Rattle.std.specs.Prelude.{◌≡◌, ℕ, ◌-◌, ◌%◌, ◌^◌, Bool, true, false, ℤ, pos, neg_ℤ, ◌≤ℤ◌, ◌<ℤ◌, unsigned_abs}
 use Rattle.dash_base.specs.declared.ops.AluOp.{AluOp}
-use Rattle.dash_base.specs.declared.ops.AluOp.TheVariants.{Add, Sub, Sll, Slt, Sltu, Xor, Srl, Sra, Or, And, Mul, Mulh, Mulhsu, Mulhu, Div, Divu, Rem, Remu}
+use Rattle.dash_base.specs.declared.ops.AluOp.TheVariants.{Add, Sll, Slt, Sltu, Xor, Srl, Sra, Or, And}
 
 -- a signed number that fits so many bits
 pub record FitsBits (width : ℕ) (z : ℤ) : Type 0 where

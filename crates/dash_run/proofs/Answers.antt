@@ -1,6 +1,5 @@
 -- What is owed for a file, from what the loader and the run say of it.
-use Rattle.std.proofs.Common.{◌≡◌, ℕ, List, ◌++◌, Some, None, string_bytes, refl, sym, subst}
-use Rattle.dash_base.specs.Topology.{IsSimple}
+use Rattle.std.proofs.Common.{◌≡◌, ℕ, List, Some, None, refl, subst}
 use Rattle.dash_base.specs.declared.topology.Topology.{Topology}
 use Rattle.elf_load.specs.Image.{ImageView}
 use Rattle.elf_load.specs.Loader.{refusal_of, image_of, Refuses}
@@ -10,8 +9,8 @@ use Rattle.elf_load.specs.declared.refusal.LoadRefusal.TheVariants as load_refus
 use Rattle.dash_run.specs.declared.owed.Owed.{Owed}
 use Rattle.dash_run.specs.declared.owed.Owed.TheVariants.{Usage, Line, Report}
 use Rattle.dash_run.specs.Flat.{IsWholeRun}
-use Rattle.dash_run.specs.Outcome.{IsMachine, IsRefused, IsReported, refusal_line}
-use Rattle.dash_run.specs.Owed.{IsAnswer, IsReport, IsRefusalLine}
+use Rattle.dash_run.specs.Outcome.{IsMachine}
+use Rattle.dash_run.specs.Owed.{IsAnswer, IsReport}
 
 pub report_answers : (bytes : List ℕ) (image : ImageView) (t : Topology) (m : MemoryMap) (owed : Owed)
     → IsMachine t m → refusal_of bytes m ≡ None → image ≡ image_of bytes → IsReport image t owed → IsAnswer bytes owed

@@ -1,16 +1,12 @@
 -- The cause of each status, and the status of each cause, from how a call may end.
-use Rattle.std.proofs.Common.{◌≡◌, ℕ, ◌<◌, ◌≤◌, ◌⊎◌, inl, inr, List, length, Option, Some, None, IfSome, IsSomeAnd, refl, sym, ◌∙◌, ap, subst, arith}
-use Rattle.dash_base.specs.Outside.{Files, Printed, Appends, AppendsPart, Follows, Rose, last_count}
+use Rattle.std.proofs.Common.{◌≡◌, ℕ, ◌⊎◌, inl, inr, List, Option, None, refl, sym, ◌∙◌, subst, arith}
+use Rattle.dash_base.specs.Outside.{Files, Printed}
 use Rattle.dash_base.specs.declared.host.Stream.{Stream}
 use Rattle.dash_base.specs.declared.end.End.{End}
 use Rattle.dash_base.specs.declared.end.End.TheVariants.{Running, Exited, Trapped}
-use Rattle.elf_load.specs.Loader.{refusal_of}
-use Rattle.elf_load.specs.declared.memory_map.MemoryMap.{MemoryMap}
-use Rattle.elf_load.specs.declared.refusal.LoadRefusal.{LoadRefusal}
 use Rattle.dash_run.specs.CommandLine.{image_name}
 use Rattle.dash_run.specs.Report.{status_of}
-use Rattle.dash_run.specs.Outcome.{Owes, usage, failed, large, refused, reported, Ends, printed_all, print_failed, out_of_memory, Change, IsGiven, IsTooLarge, IsRefused, IsReported, IsAccepted, IsRunStatus, IsFault, IsSteady, IsClean, NamesRefused, NamesRun, NamesLarge, image_limit}
-use Rattle.dash_run.proofs.Maps.{one_map}
+use Rattle.dash_run.specs.Outcome.{Owes, usage, failed, large, refused, reported, Ends, printed_all, print_failed, out_of_memory, Change, IsReported, IsRunStatus, IsFault, NamesRefused, NamesRun}
 
 -- ---- the statuses of a run
 

@@ -1,9 +1,8 @@
 -- Each cause has its status, but for want of memory.
 use Rattle.std.proofs.Common.{◌≡◌, ℕ, ◌<◌, ◌≤◌, ◌⊎◌, inl, inr, List, length, Option, Some, None, IfSome, IsSome, IsSomeAnd, unwrap_or, refl, sym, ◌∙◌, ap, subst, arith}
-use Rattle.dash_base.specs.Outside.{Files, Printed, Rose, last_count}
+use Rattle.dash_base.specs.Outside.{Files, Printed, Rose}
 use Rattle.dash_base.specs.declared.host.Stream.{Stream}
 use Rattle.elf_load.specs.Loader.{refusal_of}
-use Rattle.elf_load.specs.declared.memory_map.MemoryMap.{MemoryMap}
 use Rattle.elf_load.specs.declared.refusal.LoadRefusal.{LoadRefusal}
 use Rattle.dash_run.specs.CommandLine.{image_name}
 use Rattle.dash_run.specs.Outcome.{Owes, usage, failed, large, refused, reported, Ends, printed_all, print_failed, out_of_memory, Change, IsGiven, IsTooLarge, IsRefused, IsReported, IsAccepted, IsRunStatus, IsSteady, IsClean, image_limit}

@@ -1,8 +1,7 @@
 -- What a hart finds, does and ends with is determined.
-use Rattle.std.proofs.Common.{◌≡◌, ℕ, true, false, List, [], ◌∷◌, Some, None, IsTrue, refl, sym, ◌∙◌, ap, subst}
+use Rattle.std.proofs.Common.{◌≡◌, ℕ, true, false, List, [], ◌∷◌, refl, sym, ◌∙◌, ap, subst}
 use Rattle.dash_base.specs.declared.topology.Topology.{Topology}
-use Rattle.elf_load.specs.Image.{ImageView, fetched}
-use Rattle.rv32_decode.specs.Layout.{word_of}
+use Rattle.elf_load.specs.Image.{ImageView}
 use Rattle.rv32_decode.proofs.Unique.{one_word}
 use Rattle.dash_run.specs.declared.need.Found.{Found}
 use Rattle.dash_run.specs.declared.need.Found.TheVariants.{NoWord, NoInstr, This}

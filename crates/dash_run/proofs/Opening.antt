@@ -1,11 +1,10 @@
 -- The words of the opening memory are held by the vector that is made of them.
-use Rattle.std.proofs.Common.{◌≡◌, ℕ, ◌+◌, ◌*◌, ◌/◌, ◌%◌, ◌<◌, List, length, get_or, map, arith, ap, ◌∙◌, subst, sym, refl}
-use Rattle.std.specs.List.{range_with_len}
+use Rattle.std.proofs.Common.{◌≡◌, ◌+◌, ◌*◌, ◌/◌, ◌%◌, ◌<◌, length, arith, ap, ◌∙◌, refl}
 use Rattle.std.proofs.lemmas.List.FromFn.{get_or-map-range_with_len, length-map-range_with_len}
 use Rattle.dash_base.specs.declared.topology.Topology.{Topology}
 use Rattle.elf_load.specs.Image.{ImageView, opening_word, opening_words, words_among}
 use Rattle.elf_load.specs.declared.memory_map.MemoryMap.{MemoryMap}
-use Rattle.dash_run.specs.Held.{WordList, IsSized, IsHeld}
+use Rattle.dash_run.specs.Held.{IsHeld}
 
 pub opening_held : (image : ImageView) (t : Topology) (m : MemoryMap) → m.base ≡ t.base → m.size ≡ t.memory → m.size % 4 ≡ 0
     → IsHeld t (record { base = t.base; words = opening_words image m }) (λ a. opening_word image a)

@@ -1,7 +1,6 @@
 -- What a call owes, from what it has ready.
-use Rattle.std.proofs.Common.{◌≡◌, ℕ, List, ◌++◌, length, Option, Some, None, IfSome, IsSome, IsSomeAnd, string_bytes, sym, ◌∙◌, subst, refl}
+use Rattle.std.proofs.Common.{◌≡◌, ℕ, List, ◌++◌, length, Option, Some, None, IfSome, IsSome, IsSomeAnd, string_bytes, sym, ◌∙◌, subst}
 use Rattle.dash_base.specs.Outside.{Files, Printed, Appends, AppendsPart, Follows, Rose}
-use Rattle.dash_base.specs.declared.host.Stream.TheVariants as stream
 use Rattle.dash_run.specs.declared.owed.Owed.{Owed}
 use Rattle.dash_run.specs.declared.owed.Owed.TheVariants.{Usage, Line, Report}
 use Rattle.dash_run.specs.CommandLine.{image_name}

@@ -3,7 +3,7 @@ use Rattle.std.proofs.Common.{◌≡◌, ℕ, ◌+◌, List, ◌++◌, length, t
 use Rattle.std.proofs.Common.{arith}
 use Rattle.std.proofs.Math.Seq.{take-append-add}
 use Rattle.std.proofs.lemmas.Grind.{common_steps}
-use Rattle.dash_base.specs.Outside.{Printed, Appends, AppendsPart, Follows, on, beside}
+use Rattle.dash_base.specs.Outside.{Printed, Appends, AppendsPart, Follows, on}
 use Rattle.dash_base.specs.declared.host.Stream.{Stream}
 
 -- as many elements as a prefix has are that prefix, whatever comes after

@@ -1,7 +1,7 @@
 -- Bytes moved to their place in a word still fit it.
-use Rattle.std.proofs.Common.{◌≡◌, ℕ, ◌+◌, ◌*◌, ◌%◌, ◌^◌, ◌<◌, zero, suc, refl, arith, bit_and, ap, ◌∙◌}
+use Rattle.std.proofs.Common.{◌≡◌, ℕ, ◌*◌, ◌%◌, ◌^◌, ◌<◌, zero, suc, arith, bit_and}
 use Rattle.std.proofs.lemmas.Nat.{and_mask}
-use Rattle.std.proofs.Math.Nat.{mod-eq_of_lt, mod-lt}
+use Rattle.std.proofs.Math.Nat.{mod-eq_of_lt}
 
 -- one byte, at each of four places
 pub byte_fits : (v p : ℕ) → v < 2 ^ 8 → p < 4 → v * 2 ^ (8 * p) < 2 ^ 32

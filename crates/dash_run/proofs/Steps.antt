@@ -1,12 +1,12 @@
 -- One more step of a run.
-use Rattle.std.proofs.Common.{◌≡◌, ℕ, true, List, [], ◌∷◌, ◌++◌, refl, sym, ◌∙◌, ap, subst}
+use Rattle.std.proofs.Common.{◌≡◌, ℕ, true, List, [], ◌∷◌, ◌++◌, refl, ◌∙◌, ap, subst}
 use Rattle.dash_base.specs.declared.topology.Topology.{Topology}
 use Rattle.elf_load.specs.Image.{ImageView}
 use Rattle.dash_run.specs.declared.need.Need.{Need}
 use Rattle.dash_run.specs.HartState.{HartState, can_go_on}
 use Rattle.dash_run.specs.Meaning.{need_at, after_need}
-use Rattle.dash_run.specs.Flat.{FlatState, StepRecord, IsFlatStep, AreSteps, IsSequentialRun, answer_of, memory_after, console_after, record_of, state_after}
-use Rattle.dash_run.specs.Held.{WordList, IsHeld, IsReached, IsDone}
+use Rattle.dash_run.specs.Flat.{FlatState, StepRecord, IsFlatStep, AreSteps, answer_of, memory_after, console_after, record_of, state_after}
+use Rattle.dash_run.specs.Held.{WordList, IsReached, IsDone}
 
 pub steps_on : (image : ImageView) (t : Topology) (a b c : FlatState) (rs : List StepRecord) (r : StepRecord)
     → AreSteps image t a rs b → IsFlatStep image t b r c → AreSteps image t a (rs ++ r ∷ []) c

@@ -1,5 +1,5 @@
 -- Accesses to data: how wide they are, which of them trap, and which bytes of a word they mean.
-use Rattle.std.specs.Prelude.{◌≡◌, ℕ, ◌+◌, ◌-◌, ◌*◌, ◌/◌, ◌%◌, ◌^◌, ◌<◌, ◌≤◌, ◌==◌, Bool, true, false, not, ◌&&◌, nat_lt, nat_le, if◌then◌else◌, Option, Some, None}
+use Rattle.std.specs.Prelude.{◌≡◌, ℕ, ◌+◌, ◌-◌, ◌*◌, ◌/◌, ◌%◌, ◌^◌, ◌≤◌, ◌==◌, Bool, true, false, not, ◌&&◌, nat_lt, nat_le, if◌then◌else◌, Option, Some, None}
 use Rattle.dash_base.specs.declared.end.End.TheVariants.{Trapped}
 use Rattle.dash_base.specs.declared.end.Trap.{Trap}
 use Rattle.dash_base.specs.declared.end.Trap.TheVariants as trap
@@ -13,7 +13,7 @@ use Rattle.dash_run.specs.HartState.{is_running}
 use Rattle.dash_run.specs.declared.width.Width.{Width}
 use Rattle.dash_run.specs.declared.width.Width.TheVariants as width
 use Rattle.dash_run.specs.declared.need.Need.{Need}
-use Rattle.dash_run.specs.declared.need.Need.TheVariants.{Alu, Put, Stop, Load, Store}
+use Rattle.dash_run.specs.declared.need.Need.TheVariants.{Stop, Load, Store}
 
 -- how many bytes an access means
 abbrev pub size_of : Width → ℕ

@@ -1,5 +1,5 @@
 -- The form of a command line that is served: `run IMAGE`.
-use Rattle.std.specs.Prelude.{ℕ, ◌==◌, Bool, true, false, not, ◌&&◌, if◌then◌else◌, List, [], ◌∷◌, codes, bytes_eq, Option, Some, None}
+use Rattle.std.specs.Prelude.{ℕ, ◌==◌, Bool, false, not, ◌&&◌, if◌then◌else◌, List, [], ◌∷◌, codes, bytes_eq, Option, Some, None}
 
 -- a name is not empty and does not begin with `-`
 abbrev pub is_name : List ℕ → Bool

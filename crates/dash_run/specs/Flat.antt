@@ -1,5 +1,5 @@
 -- The machine of one hart over one flat memory, its steps and its sequential runs.
-use Rattle.std.specs.Prelude.{◌≡◌, ℕ, ◌+◌, ◌-◌, ◌*◌, ◌==◌, Bool, true, false, if◌then◌else◌, List, [], ◌∷◌, ◌++◌, replicate, slice_set}
+use Rattle.std.specs.Prelude.{◌≡◌, ℕ, ◌+◌, ◌-◌, ◌*◌, ◌==◌, true, false, if◌then◌else◌, List, [], ◌∷◌, ◌++◌, replicate, slice_set}
 use Rattle.dash_base.specs.Words.{merged}
 use Rattle.dash_base.specs.declared.end.End.{End}
 use Rattle.dash_base.specs.declared.end.End.TheVariants.{Running}
@@ -7,7 +7,7 @@ use Rattle.dash_base.specs.declared.topology.Topology.{Topology}
 use Rattle.elf_load.specs.Image.{ImageView, opening_word}
 use Rattle.dash_run.specs.declared.need.Found.{Found}
 use Rattle.dash_run.specs.declared.need.Need.{Need}
-use Rattle.dash_run.specs.declared.need.Need.TheVariants.{Alu, Put, Stop, Load, Store}
+use Rattle.dash_run.specs.declared.need.Need.TheVariants.{Put, Stop, Load, Store}
 use Rattle.dash_run.specs.HartState.{HartState, can_go_on}
 use Rattle.dash_run.specs.Meaning.{IsFound, need_at, after_need}
 

@@ -1,5 +1,5 @@
 -- The state of a hart.
-use Rattle.std.specs.Prelude.{ℕ, ◌+◌, ◌==◌, ◌<◌, Bool, true, false, ◌&&◌, nat_lt, if◌then◌else◌, List, slice_index, slice_set}
+use Rattle.std.specs.Prelude.{ℕ, ◌+◌, ◌==◌, Bool, true, false, ◌&&◌, nat_lt, if◌then◌else◌, List, slice_index, slice_set}
 use Rattle.dash_base.specs.declared.end.End.{End}
 use Rattle.dash_base.specs.declared.end.End.TheVariants as end
 use Rattle.dash_base.specs.declared.topology.Topology.{Topology}

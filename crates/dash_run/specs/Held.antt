@@ -6,7 +6,7 @@ use Rattle.dash_run.specs.HartState.{HartState, is_running}
 use Rattle.dash_run.specs.declared.need.Found.{Found}
 use Rattle.dash_run.specs.declared.need.Need.{Need}
 use Rattle.dash_run.specs.Meaning.{IsFound, need_at, after_need}
-use Rattle.dash_run.specs.Flat.{FlatMemory, FlatState, StepRecord, IsSequentialRun, IsWholeRun, answer_of, memory_after}
+use Rattle.dash_run.specs.Flat.{FlatMemory, StepRecord, IsSequentialRun, IsWholeRun, answer_of, memory_after}
 
 -- the words from an address on
 pub record WordList : Type 0 where

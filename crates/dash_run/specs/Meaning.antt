@@ -1,7 +1,7 @@
 -- The meaning of an instruction: what it needs, and what becomes of the hart when it is answered.
-use Rattle.std.specs.Prelude.{◌≡◌, ℕ, ◌+◌, ◌-◌, ◌%◌, ◌^◌, ◌==◌, Bool, true, false, not, if◌then◌else◌, Some, None, IsTrue, pos}
+use Rattle.std.specs.Prelude.{◌≡◌, ℕ, ◌+◌, ◌-◌, ◌%◌, ◌^◌, ◌==◌, if◌then◌else◌, Some, None, IsTrue}
 use Rattle.dash_base.specs.declared.end.End.{End}
-use Rattle.dash_base.specs.declared.end.End.TheVariants.{Running, Exited, Trapped}
+use Rattle.dash_base.specs.declared.end.End.TheVariants.{Exited, Trapped}
 use Rattle.dash_base.specs.declared.end.Trap.TheVariants as trap
 use Rattle.dash_base.specs.declared.instr.Instr.{Instr}
 use Rattle.dash_base.specs.declared.instr.Instr.TheVariants as instr
@@ -13,7 +13,7 @@ use Rattle.rv32_decode.specs.Decoding.{IsDecoding}
 use Rattle.dash_run.specs.declared.need.Found.{Found}
 use Rattle.dash_run.specs.declared.need.Found.TheVariants.{NoWord, NoInstr, This}
 use Rattle.dash_run.specs.declared.need.Need.{Need}
-use Rattle.dash_run.specs.declared.need.Need.TheVariants.{Alu, Put, Stop, Load, Store}
+use Rattle.dash_run.specs.declared.need.Need.TheVariants.{Alu, Put, Stop}
 use Rattle.dash_run.specs.HartState.{HartState, reg, with_register, retired_to}
 use Rattle.dash_run.specs.Arithmetic.{alu_value, is_taken, moved_by}
 use Rattle.dash_run.specs.Access.{load_width, store_width, load_need, store_need, loaded}

@@ -1,5 +1,5 @@
 -- What a call of the program owes, and how it may end.
-use Rattle.std.specs.Prelude.{◌≡◌, ℕ, ◌^◌, ◌<◌, ◌≤◌, ◌⊎◌, List, [], ◌∷◌, ◌++◌, length, codes, decimal, Option, Some, None, IfSome, IsSome, IsSomeAnd}
+use Rattle.std.specs.Prelude.{◌≡◌, ℕ, ◌<◌, ◌≤◌, ◌⊎◌, List, [], ◌++◌, length, codes, decimal, Option, Some, None, IfSome, IsSome, IsSomeAnd}
 use Rattle.dash_base.specs.Outside.{Files, Printed, Appends, AppendsPart, Follows, Rose, last_count}
 use Rattle.dash_base.specs.Topology.{IsSimple}
 use Rattle.dash_base.specs.declared.host.Stream.{Stream}

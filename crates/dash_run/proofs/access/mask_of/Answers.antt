@@ -1,4 +1,3 @@
-use Rattle.std.proofs.Common.{sym, ◌∙◌}
 use Rattle.dash_run.proofs.Shifts.{byte_mask, half_mask, byte_mask_fits, half_mask_fits, place_small, place_even}
 use Rattle.dash_run.proofs.access.mask_of.Goals as goal
 

@@ -1,4 +1,3 @@
-use Rattle.std.proofs.Common.{sym, ◌∙◌}
 use Rattle.dash_run.proofs.Shifts.{byte_placed, half_placed}
 use Rattle.dash_run.proofs.access.placed.Goals as goal
 

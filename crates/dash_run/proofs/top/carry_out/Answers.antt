@@ -1,4 +1,3 @@
-use Rattle.std.proofs.Common.{subst, sym}
 use Rattle.dash_run.proofs.Owing.{ends_all, ends_part, ends_early}
 use Rattle.dash_run.proofs.top.carry_out.Goals as goal
 
