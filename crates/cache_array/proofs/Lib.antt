@@ -1,0 +1,6 @@
+pub mod LineMaps
+pub mod Lines
+pub mod Finds
+pub mod Maps
+pub mod Indexes
+pub mod Held
