@@ -1,11 +1,13 @@
 -- Each change of two levels, read at any line; and levels that read alike are equal.
-use Rattle.std.proofs.Common.{◌≡◌, ℕ, ◌%◌, true, false, cond, not, ◌&&◌, ◌||◌, refl, ap, ◌∙◌}
+use Rattle.std.proofs.Common.{◌≡◌, ℕ, ◌%◌, true, false, cond, not, ◌&&◌, ◌||◌, refl, ap, ◌∙◌, arith}
 use Rattle.std.specs.Prelude.{◌==◌}
 use Rattle.std.specs.Ordering.{nat_cmp}
 use Rattle.std.specs.FinSet.{contains-empty, retain}
+use Rattle.std.proofs.lemmas.Bool.Decides.{nat_tests}
 use Rattle.dash_base.specs.declared.line.Line.{Line}
 use Rattle.cache_array.specs.View.{has_line, empty_array, with_copy, without_line}
-use Rattle.cache_levels.specs.View.{LevelsView, in_l1, empty_levels, with_level_copy, without_level_line, entered, after_read}
+use Rattle.cache_array.proofs.Lines.{copy_at-with_copy, copy_at-without_line}
+use Rattle.cache_levels.specs.View.{LevelsView, in_l1, empty_levels, with_level_copy, without_level_line, entered, after_read, IsPartOfL2}
 use Rattle.cache_levels.proofs.Sets.{contains-insert_nat, contains-remove_nat, contains-retain_nat, same_nat_set}
 
 pub l2-empty_levels : (m n : ℕ) → (empty_levels m n).l2 ≡ empty_array n
@@ -82,3 +84,25 @@ unfolding in_l1
 same_levels v w lines near below =
     let same = same_nat_set v.l1 w.l1 near in
     λ i. record { l1_lines = lines i; l1 = same i; l2 = below i }
+
+-- L1 stays a part of L2
+pub part-with_level_copy : (v : LevelsView) (l : ℕ) (c : Line) → IsPartOfL2 v → IsPartOfL2 (with_level_copy v l c)
+part-with_level_copy v l c p = record {
+  within = λ q near.
+      grind (arith, nat_tests, in_l1-with_level_copy v l c q, l2-with_level_copy v l c, copy_at-with_copy v.l2 l c q, p.within q);
+}
+
+pub part-without_level_line : (v : LevelsView) (l : ℕ) → IsPartOfL2 v → IsPartOfL2 (without_level_line v l)
+part-without_level_line v l p = record {
+  within = λ q near.
+      grind (arith, nat_tests, in_l1-without_level_line v l q, l2-without_level_line v l, copy_at-without_line v.l2 l q, p.within q);
+}
+
+pub part-after_read : (v : LevelsView) (l : ℕ) → IsPartOfL2 v → IsPartOfL2 (after_read v l)
+part-after_read v l p = record {
+  within = λ q near.
+      grind (arith, nat_tests, in_l1-after_read v l q, l2-after_read v l, p.within q);
+}
+
+pub part-empty_levels : (m n : ℕ) → IsPartOfL2 (empty_levels m n)
+part-empty_levels m n = record { within = λ q near. grind (arith, in_l1-empty_levels m n q) }

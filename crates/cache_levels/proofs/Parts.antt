@@ -1,11 +1,11 @@
 -- Two arrays as two levels, and what each change of the arrays is to the levels.
-use Rattle.std.proofs.Common.{◌≡◌, ℕ, ◌%◌, Bool, true, false, cond, Some, None, is_some, refl, sym, ap, ◌∙◌, arith}
+use Rattle.std.proofs.Common.{◌≡◌, ℕ, ◌%◌, Bool, true, false, cond, Option, Some, None, is_some, refl, sym, ap, ◌∙◌, arith}
 use Rattle.std.specs.Prelude.{◌==◌}
 use Rattle.std.proofs.lemmas.Bool.Decides.{nat_tests}
 use Rattle.dash_base.specs.declared.line.Line.{Line}
 use Rattle.cache_array.specs.View.{ArrayView, copy_at, has_line, empty_array, with_copy, without_line, HasRoom, IsOther, IsOnePerIndex}
 use Rattle.cache_array.proofs.Lines.{copy_at-empty_array, copy_at-with_copy, copy_at-without_line, lines-empty_array, lines-with_copy, lines-without_line, room_without_other, one_per_index-empty_array, one_per_index-with_copy, one_per_index-without_line}
-use Rattle.cache_levels.specs.View.{LevelsView, in_l1, empty_levels, with_level_copy, without_level_line, entered, read_of, after_read}
+use Rattle.cache_levels.specs.View.{LevelsView, in_l1, empty_levels, with_level_copy, without_level_line, entered, read_of, after_read, IsPartOfL2}
 use Rattle.cache_levels.specs.Within.{lines_in, IsWithin, with_copy_where_held}
 use Rattle.cache_levels.specs.Replaced.{Replaces}
 use Rattle.cache_levels.proofs.Sets.{contains-lines_in}
@@ -17,6 +17,13 @@ levels_of l1 l2 = record { l1_lines = l1.lines; l1 = lines_in l1; l2 = l2 }
 pub in_l1-levels_of : (l1 l2 : ArrayView) (q : ℕ) → in_l1 (levels_of l1 l2) q ≡ has_line l1 q
 unfolding in_l1
 in_l1-levels_of l1 l2 q = contains-lines_in l1 q
+
+part_at : (l1 l2 : ArrayView) (q : ℕ) (o : Option Line) → IsWithin l1 l2 → copy_at l1 q ≡ o → has_line l1 q ≡ true → has_line l2 q ≡ true
+part_at l1 l2 q None w e h = grind arith
+part_at l1 l2 q (Some c) w e h = ap is_some (w.part q c e)
+
+pub levels_of-part : (l1 l2 : ArrayView) → IsWithin l1 l2 → IsPartOfL2 (levels_of l1 l2)
+levels_of-part l1 l2 w = record { within = λ q near. part_at l1 l2 q (copy_at l1 q) w refl (sym (in_l1-levels_of l1 l2 q) ∙ near) }
 
 -- new levels
 pub levels_of-empty : (m n : ℕ) → levels_of (empty_array m) (empty_array n) ≡ empty_levels m n

@@ -1,5 +1,5 @@
 -- Two levels as contracts see them: L2 as an array, and the set of the lines that L1 has.
-use Rattle.std.specs.Prelude.{ℕ, ◌%◌, ◌==◌, Bool, ◌&&◌, not, Option, option_map, if◌then◌else◌, refl}
+use Rattle.std.specs.Prelude.{◌≡◌, ℕ, ◌%◌, ◌==◌, Bool, true, ◌&&◌, not, Option, option_map, if◌then◌else◌, refl}
 use Rattle.std.specs.Ordering.{nat_cmp}
 use Rattle.std.specs.FinSet.{FinSet, contains, insert, remove, retain, empty, code}
 use Rattle.std.specs.Coded.{Coded, code_by, coded×, coded_ℕ}
@@ -19,6 +19,10 @@ levels_code =
 -- whether L1 has a line
 unfoldable pub in_l1 : LevelsView → ℕ → Bool
 in_l1 v line = contains v.l1 line
+
+-- L1 has no line that L2 lacks
+pub record IsPartOfL2 (v : LevelsView) : Type 0 where
+  pub within : (line : ℕ) → in_l1 v line ≡ true → has_line v.l2 line ≡ true
 
 -- no line in either level
 unfoldable pub empty_levels : ℕ → ℕ → LevelsView

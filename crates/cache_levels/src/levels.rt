@@ -1,7 +1,7 @@
 //! L1 within L2.
 ghost use Rattle.std.specs.Prelude.{◌≡◌, ◌<◌, true, IfOk, MatchOption};
 ghost use Rattle.cache_array.specs.View.{copy_at, has_line, with_copy, HasRoom, IsOther, IsOnePerIndex};
-ghost use Rattle.cache_levels.specs.View.{empty_levels, with_level_copy, without_level_line, read_of, after_read};
+ghost use Rattle.cache_levels.specs.View.{empty_levels, with_level_copy, without_level_line, read_of, after_read, IsPartOfL2};
 ghost use Rattle.cache_levels.specs.Within.{IsWithin, with_copy_where_held};
 
 use crate::replace::replace;
@@ -63,6 +63,7 @@ impl Levels {
     pub fn peek(&self, line: LineId) -> Option<Line>
         ensures copy { result ≡ copy_at self.now.l2 line.0 }
         ensures one_per_index { IsOnePerIndex self.now.l2 }
+        ensures part { IsPartOfL2 self.now }
     {
         self.l2.get(line)
     }
