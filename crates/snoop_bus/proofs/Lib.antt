@@ -1,0 +1,12 @@
+pub mod CachesLines
+pub mod Marked
+pub mod Bits
+pub mod Gathered
+pub mod Table
+pub mod BusLines
+pub mod Becomes
+pub mod Hart
+pub mod Steps
+pub mod Loops
+pub mod HartReads
+pub mod OnBus
