@@ -88,13 +88,6 @@ levels_of-replaced l1 new l2 l c r =
     (λ q. grind (arith, nat_tests, in_l1-levels_of new l2 q, r.copies q, in_l1-entered (levels_of l1 l2) l q, in_l1-levels_of l1 l2 q))
     (sym (l2-entered (levels_of l1 l2) l))
 
-pub within-replaced : (l1 new l2 : ArrayView) (l : ℕ) (c : Line) → IsWithin l1 l2 → copy_at l2 l ≡ Some c → Replaces l1 new l c → IsWithin new l2
-within-replaced l1 new l2 l c w has r = record {
-  part = λ q d is. grind (arith, nat_tests, r.copies q, w.part q d);
-  l1_one = r.one;
-  l2_one = w.l2_one;
-}
-
 -- a read: at level 1, at level 2, and of a line that is not there
 pub reads_near : (l1 l2 : ArrayView) (l : ℕ) (c : Line) → IsWithin l1 l2 → copy_at l1 l ≡ Some c → (Some (c, 1) ≡ read_of (levels_of l1 l2) l) × (levels_of l1 l2 ≡ after_read (levels_of l1 l2) l)
 unfolding read_of after_read

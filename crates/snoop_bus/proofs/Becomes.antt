@@ -1,19 +1,17 @@
 -- Where each hart's caches change by its share of one new holding, the bus changes by that holding,
 -- and the arrays of all harts stay one map.
-use Rattle.std.proofs.Common.{◌≡◌, ℕ, zero, suc, ◌+◌, ◌<◌, ◌≤◌, ◌%◌, Bool, true, false, cond, not, ◌&&◌, ◌||◌, List, [], ◌∷◌, length, map, get_or, Option, Some, None, is_some, refl, sym, ap, ◌∙◌, arith, subst}
+use Rattle.std.proofs.Common.{◌≡◌, ℕ, ◌<◌, ◌%◌, Bool, true, false, cond, not, ◌&&◌, List, [], ◌∷◌, length, get_or, Option, Some, None, is_some, refl, sym, ap, ◌∙◌, arith, subst}
 use Rattle.std.specs.Prelude.{◌==◌}
 use Rattle.std.specs.FinSet as fs
 use Rattle.std.specs.FinSet.{contains}
 use Rattle.std.proofs.lemmas.List.{get_or-map, length-map}
-use Rattle.std.proofs.lemmas.Bool.Decides.{nat_tests}
-use Rattle.dash_base.specs.declared.line.Line.{Line}
 use Rattle.cache_array.specs.View.{has_line, HasRoom, IsOnePerIndex}
 use Rattle.cache_levels.specs.View.{in_l1, IsPartOfL2}
 use Rattle.snoop_bus.specs.Caches.{CachesView, owns}
-use Rattle.snoop_bus.specs.Holding.{Holding, has_hart, is_owner, holders_in, IsProper, IsProperHolding}
-use Rattle.snoop_bus.specs.View.{BusView, harts, holding_at, is_holder, in_hart_l1, changed, HasHartRoom, IsHartOther, IsOneMap}
-use Rattle.snoop_bus.specs.Shared.{hart_copy, gathered, first_l1_lines, first_l2_lines, bus_of, share_of_copy, share_of_owner, IsSpread, IsHartOf, AreOneMap}
-use Rattle.snoop_bus.specs.Changes.{EachBecomes, HasRoomAt}
+use Rattle.snoop_bus.specs.Holding.{Holding, has_hart, holders_in, IsProper}
+use Rattle.snoop_bus.specs.View.{harts, holding_at, is_holder, in_hart_l1, changed, HasHartRoom, IsOneMap}
+use Rattle.snoop_bus.specs.Shared.{hart_copy, gathered, first_l1_lines, first_l2_lines, bus_of, share_of_copy, share_of_owner, IsSpread, AreOneMap}
+use Rattle.snoop_bus.specs.Changes.{EachBecomes}
 use Rattle.snoop_bus.proofs.Bits.{has_hart-zero}
 use Rattle.snoop_bus.proofs.Gathered.{any_caches, gather}
 use Rattle.snoop_bus.proofs.Table.{holding_at-bus_of}
@@ -112,26 +110,30 @@ module _ (hs new : List CachesView) (f : ℕ → CachesView → CachesView) (p :
   pub becomes_changed : bus_of new ≡ changed (bus_of hs) p line o
   becomes_changed =
       same_bus _ _
-        (l1_lines-bus_of new ∙ l1_same ∙ sym (l1_lines-changed (bus_of hs) p line o ∙ l1_lines-bus_of hs))
-        (l2_lines-bus_of new ∙ l2_same ∙ sym (l2_lines-changed (bus_of hs) p line o ∙ l2_lines-bus_of hs))
-        (harts-bus_of new ∙ e.as_many ∙ sym (harts-changed (bus_of hs) p line o ∙ harts-bus_of hs))
-        (λ q. holding_at-bus_of new q ∙ gathered_new q ∙ sym (holding_at-changed (bus_of hs) p line o q ∙ ap (cond (q == line) o) (holding_at-bus_of hs q)))
-        (λ h q low. let many = harts-bus_of new in let l : h < length hs = omega (arith, e.as_many, many) in
-            in_hart_l1-bus_of new h q (omega (arith, many))
-            ∙ (at h any_caches l).l1 q
-            ∙ sym (in_hart_l1-changed (bus_of hs) p line o h q ∙ ap (λ t. not (p h && (q == line)) && t) (in_hart_l1-bus_of hs h q l)))
+      (l1_lines-bus_of new ∙ l1_same ∙ sym (l1_lines-changed (bus_of hs) p line o ∙ l1_lines-bus_of hs))
+      (l2_lines-bus_of new ∙ l2_same ∙ sym (l2_lines-changed (bus_of hs) p line o ∙ l2_lines-bus_of hs))
+      (harts-bus_of new ∙ e.as_many ∙ sym (harts-changed (bus_of hs) p line o ∙ harts-bus_of hs))
+      (λ q. holding_at-bus_of new q ∙ gathered_new q ∙ sym (holding_at-changed (bus_of hs) p line o q ∙ ap (cond (q == line) o) (holding_at-bus_of hs q)))
+      (λ h q low. let many = harts-bus_of new in let l : h < length hs = omega (arith, e.as_many, many) in
+      in_hart_l1-bus_of new h q (omega (arith, many))
+      ∙ (at h any_caches l).l1 q
+      ∙ sym (in_hart_l1-changed (bus_of hs) p line o h q ∙ ap (λ t. not (p h && (q == line)) && t) (in_hart_l1-bus_of hs h q l)))
 
 -- the bus is one map, and a hart's room and other line are those of its L2
 l2_of : (hs : List CachesView) (h : ℕ) → AreOneMap hs → h < length hs → (get_or hs h any_caches).levels.l2.lines ≡ (bus_of hs).l2_lines
 l2_of hs h one low = (one.each h any_caches low).l2_is ∙ sym (l2_lines-bus_of hs)
 
 pub room_of_bus : (hs : List CachesView) (h line : ℕ) → AreOneMap hs → h < length hs → HasHartRoom (bus_of hs) h line → HasRoom (get_or hs h any_caches).levels.l2 line
-room_of_bus hs h line one low room = record { alone = λ q held same.
-    room.alone q (is_holder-bus_of hs h q one low ∙ held) (ap (λ n. q % n) (sym (l2_of hs h one low)) ∙ same ∙ ap (λ n. line % n) (l2_of hs h one low)) }
+room_of_bus hs h line one low room = record {
+  alone = λ q held same.
+      room.alone q (is_holder-bus_of hs h q one low ∙ held) (ap (λ n. q % n) (sym (l2_of hs h one low)) ∙ same ∙ ap (λ n. line % n) (l2_of hs h one low));
+}
 
 pub room_of_hart : (hs : List CachesView) (h line : ℕ) → AreOneMap hs → h < length hs → HasRoom (get_or hs h any_caches).levels.l2 line → HasHartRoom (bus_of hs) h line
-room_of_hart hs h line one low room = record { alone = λ q held same.
-    room.alone q (sym (is_holder-bus_of hs h q one low) ∙ held) (ap (λ n. q % n) (l2_of hs h one low) ∙ same ∙ ap (λ n. line % n) (sym (l2_of hs h one low))) }
+room_of_hart hs h line one low room = record {
+  alone = λ q held same.
+      room.alone q (sym (is_holder-bus_of hs h q one low) ∙ held) (ap (λ n. q % n) (l2_of hs h one low) ∙ same ∙ ap (λ n. line % n) (sym (l2_of hs h one low)));
+}
 
 pub is_one_map : (hs : List CachesView) → AreOneMap hs → IsOneMap (bus_of hs)
 is_one_map hs one = record {

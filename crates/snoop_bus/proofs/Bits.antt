@@ -1,10 +1,10 @@
 -- Harts as bits.
-use Rattle.std.proofs.Common.{◌≡◌, ◌≢◌, ℕ, ◌+◌, ◌-◌, ◌*◌, ◌/◌, ◌%◌, ◌^◌, ◌<◌, ◌≤◌, Bool, true, false, cond, not, ◌&&◌, ◌||◌, min, max, refl, sym, ap, ◌∙◌, arith, bit_or, bit_and, suc}
+use Rattle.std.proofs.Common.{◌≡◌, ℕ, ◌+◌, ◌-◌, ◌*◌, ◌/◌, ◌%◌, ◌^◌, ◌<◌, Bool, true, false, cond, not, ◌&&◌, ◌||◌, min, max, refl, sym, ap, ◌∙◌, arith, suc}
 use Rattle.std.specs.Prelude.{◌==◌}
 use Rattle.std.specs.Int.{bit_at, bit_not, w32}
 use Rattle.std.proofs.lemmas.Bool.Decides.{nat_tests}
 use Rattle.std.proofs.lemmas.Nat.{pow_below}
-use Rattle.std.proofs.lemmas.Nat.Bits.{bit_at-lt, bit_at-zero, bit_at-suc, bit_at_lowest, bit_at_or, bit_at_and, bit_at_not, bit_at-pow_same, bit_at-pow_other, bit_at_above, same_from_bits, bit_at_set_same, bit_at_set_other}
+use Rattle.std.proofs.lemmas.Nat.Bits.{bit_at-lt, bit_at-zero, bit_at-suc, bit_at_lowest, bit_at_or, bit_at_and, bit_at_not, bit_at-pow_same, bit_at-pow_other, same_from_bits}
 use Rattle.snoop_bus.specs.Holding.{has_hart, alone, with_hart, without_hart}
 
 pow_bit : (k i b : ℕ) → b ≡ bit_at (2 ^ k) i → b ≡ cond (i == k) 1 0
@@ -70,7 +70,9 @@ pub has_hart-later : (b : Bool) (n i : ℕ) → has_hart (cond b 1 0 + 2 * n) (s
 unfolding has_hart
 has_hart-later b n i = ap (λ k. k == 1) (bit_at-suc (cond b 1 0 + 2 * n) i ∙ ap (λ k. bit_at k i) (half b n))
 
--- what the code writes: `holders | 1 << hart`
-pub has_hart-set : (n k i : ℕ) → k < 32 → has_hart (bit_or n (1 * 2 ^ k % 2 ^ 32)) i ≡ ((i == k) || has_hart n i)
-unfolding has_hart
-has_hart-set n k i low = grind (arith, nat_tests, bit_at_set_same w32 n k low, bit_at_set_other w32 n k low i)
+-- one hart as the code writes it: `1 << hart`
+pub alone_shifted : (h : ℕ) → h < 32 → 1 * 2 ^ h % 2 ^ 32 ≡ alone h
+unfolding alone
+alone_shifted h low = let small = pow_below h 32 low in omega arith
+
+pub ruleset hart_bits = (has_hart-alone, has_hart-with_hart, has_hart-without_hart, has_hart-zero)

@@ -1,12 +1,11 @@
 -- Each change of a bus, read at any line and hart; and buses that read alike are equal.
-use Rattle.std.proofs.Common.{◌≡◌, ℕ, zero, suc, ◌+◌, ◌<◌, ◌%◌, Bool, true, false, cond, not, ◌&&◌, ◌||◌, List, [], ◌∷◌, length, replicate, get_or, set, Option, Some, None, refl, sym, ap, ◌∙◌, arith, length-set, zero-add, add-zero}
+use Rattle.std.proofs.Common.{◌≡◌, ℕ, zero, suc, ◌+◌, ◌<◌, ◌%◌, Bool, true, false, cond, not, ◌&&◌, ◌||◌, List, [], ◌∷◌, length, replicate, get_or, Option, Some, None, refl, sym, ap, ◌∙◌, arith, length-set, zero-add, add-zero}
 use Rattle.std.specs.Prelude.{◌==◌}
 use Rattle.std.specs.Ordering.{nat_cmp}
 use Rattle.std.specs.FinMap.{FinMap, get}
 use Rattle.std.specs.FinSet as fs
 use Rattle.std.specs.FinSet.{FinSet, contains, contains-empty, retain, remove}
-use Rattle.std.proofs.lemmas.List.{ext_get_or, get_or-set_same, get_or-set_other, get_or-replicate, length-replicate}
-use Rattle.std.proofs.Math.ListN.{get_or-eq_default}
+use Rattle.std.proofs.lemmas.List.{ext_get_or, get_or-set_same, get_or-set_other, length-replicate}
 use Rattle.std.proofs.lemmas.Bool.Decides.{nat_tests}
 use Rattle.cache_array.proofs.LineMaps.{get-empty_nat, get-insert_nat, get-remove_nat, same_nat_map}
 use Rattle.cache_levels.proofs.Sets.{contains-insert_nat, contains-remove_nat, contains-retain_nat, same_nat_set}
@@ -144,6 +143,7 @@ in_hart_l1-after_hart_read b h l k q low =
     and-true : (t : Bool) → t ≡ (t && true)
     and-true true = refl
     and-true false = refl
+
     and-false : (t : Bool) → false ≡ (t && false)
     and-false true = refl
     and-false false = refl

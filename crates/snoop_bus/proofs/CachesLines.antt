@@ -1,9 +1,8 @@
 -- Each change of one hart's caches, read at any line; and caches that read alike are equal.
-use Rattle.std.proofs.Common.{◌≡◌, ℕ, Bool, true, false, cond, not, ◌&&◌, ◌||◌, refl, sym, ap, ◌∙◌, arith}
+use Rattle.std.proofs.Common.{◌≡◌, ℕ, Bool, true, false, cond, not, ◌&&◌, ◌||◌, refl, ◌∙◌}
 use Rattle.std.specs.Prelude.{◌==◌}
 use Rattle.std.specs.Ordering.{nat_cmp}
 use Rattle.std.specs.FinSet.{FinSet, contains, insert, remove, contains-empty}
-use Rattle.std.proofs.lemmas.Bool.Decides.{nat_tests}
 use Rattle.dash_base.specs.declared.line.Line.{Line}
 use Rattle.cache_levels.specs.View.{empty_levels, with_level_copy, without_level_line, after_read}
 use Rattle.cache_levels.proofs.Sets.{contains-insert_nat, contains-remove_nat, same_nat_set}

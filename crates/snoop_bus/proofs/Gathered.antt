@@ -1,12 +1,11 @@
 -- What is gathered from harts that each have their share of one holding is that holding.
-use Rattle.std.proofs.Common.{◌≡◌, ◌≢◌, ℕ, zero, suc, ◌+◌, ◌*◌, ◌<◌, ◌≤◌, Bool, true, false, cond, not, ◌&&◌, List, [], ◌∷◌, length, get_or, Option, Some, None, is_some, refl, sym, ap, ◌∙◌, arith, subst, ◌⊎◌, inl, inr, option_map, zero-add}
-use Rattle.std.specs.Prelude.{◌==◌}
+use Rattle.std.proofs.Common.{◌≡◌, ℕ, zero, suc, ◌+◌, ◌<◌, ◌≤◌, Bool, true, false, cond, List, [], ◌∷◌, length, get_or, Option, Some, None, is_some, refl, sym, ap, ◌∙◌, arith, ◌⊎◌, inl, inr, option_map, zero-add}
 use Rattle.std.proofs.lemmas.Bool.Decides.{nat_tests}
 use Rattle.dash_base.specs.declared.line.Line.{Line}
-use Rattle.cache_array.specs.View.{copy_at, has_line}
+use Rattle.cache_array.specs.View.{has_line}
 use Rattle.snoop_bus.specs.Caches.{CachesView, owns, no_caches}
-use Rattle.snoop_bus.specs.Holding.{Holding, has_hart, is_owner, IsProper, IsProperHolding}
-use Rattle.snoop_bus.specs.Shared.{hart_copy, gathered_holders, gathered_owner, gathered_copy, gathered, share_of_copy, share_of_owner, IsSpread}
+use Rattle.snoop_bus.specs.Holding.{Holding, has_hart, is_owner, IsProperHolding}
+use Rattle.snoop_bus.specs.Shared.{hart_copy, gathered_holders, gathered_owner, gathered_copy, gathered, IsSpread}
 use Rattle.snoop_bus.proofs.Bits.{has_hart-first, has_hart-later, has_hart-zero, same_holders}
 
 -- holders, bit by bit

@@ -1,14 +1,14 @@
 -- A read by one hart: what it answers, and which line enters its L1.
-use Rattle.std.proofs.Common.{◌≡◌, ◌≢◌, ℕ, ◌+◌, ◌<◌, ◌≤◌, ◌%◌, Bool, true, false, cond, not, ◌&&◌, ◌||◌, List, length, get_or, Option, Some, None, is_some, option_map, refl, sym, ap, ◌∙◌, arith, subst}
+use Rattle.std.proofs.Common.{◌≡◌, ℕ, ◌<◌, ◌%◌, Bool, true, false, cond, not, ◌&&◌, ◌||◌, List, length, get_or, Option, Some, None, option_map, refl, sym, ap, ◌∙◌, arith, subst}
 use Rattle.std.specs.Prelude.{◌==◌}
 use Rattle.std.proofs.lemmas.Bool.Decides.{nat_tests}
 use Rattle.dash_base.specs.declared.line.Line.{Line}
 use Rattle.cache_array.specs.View.{copy_at, has_line, IsOnePerIndex}
-use Rattle.cache_levels.specs.View.{LevelsView, in_l1, IsPartOfL2, read_of, after_read}
+use Rattle.cache_levels.specs.View.{LevelsView, in_l1, IsPartOfL2, read_of}
 use Rattle.cache_levels.proofs.Lines.{l2-after_read, l1_lines-after_read, in_l1-after_read, part-after_read}
 use Rattle.snoop_bus.specs.Caches.{CachesView, owns, caches_read}
 use Rattle.snoop_bus.specs.Holding.{Holding, has_hart, holders_in, copy_in}
-use Rattle.snoop_bus.specs.View.{BusView, harts, holding_at, is_holder, in_hart_l1, hart_read_of, after_hart_read}
+use Rattle.snoop_bus.specs.View.{is_holder, in_hart_l1, hart_read_of, after_hart_read}
 use Rattle.snoop_bus.specs.Shared.{hart_copy, gathered, first_l1_lines, bus_of, share_of_copy, IsSpread, AreOneMap}
 use Rattle.snoop_bus.specs.Changes.{EachBecomes}
 use Rattle.snoop_bus.proofs.CachesLines.{levels-caches_read, owns-caches_read}
@@ -115,14 +115,14 @@ module _ (hs new : List CachesView) (hart line : ℕ) (one : AreOneMap hs) (low 
   reads_bus =
       let many = harts-bus_of hs in
       same_bus _ _
-        (l1_lines-bus_of new ∙ l1_same ∙ sym (l1_lines-after_hart_read (bus_of hs) hart line ∙ l1_lines-bus_of hs))
-        (l2_lines-bus_of new ∙ l2_same ∙ sym (l2_lines-after_hart_read (bus_of hs) hart line ∙ l2_lines-bus_of hs))
-        (harts-bus_of new ∙ e.as_many ∙ sym (harts-after_hart_read (bus_of hs) hart line ∙ harts-bus_of hs))
-        (λ q. holding_at-bus_of new q ∙ gathered_new q ∙ sym (holding_at-after_hart_read (bus_of hs) hart line q ∙ holding_at-bus_of hs q))
-        (λ h q l. let many_new = harts-bus_of new in let old : h < length hs = omega (arith, e.as_many, many_new) in
-            in_hart_l1-bus_of new h q (omega (arith, many_new))
-            ∙ near_new h q old (h == hart) refl
-            ∙ sym (in_hart_l1-after_hart_read (bus_of hs) hart line h q (omega (arith, many))))
+      (l1_lines-bus_of new ∙ l1_same ∙ sym (l1_lines-after_hart_read (bus_of hs) hart line ∙ l1_lines-bus_of hs))
+      (l2_lines-bus_of new ∙ l2_same ∙ sym (l2_lines-after_hart_read (bus_of hs) hart line ∙ l2_lines-bus_of hs))
+      (harts-bus_of new ∙ e.as_many ∙ sym (harts-after_hart_read (bus_of hs) hart line ∙ harts-bus_of hs))
+      (λ q. holding_at-bus_of new q ∙ gathered_new q ∙ sym (holding_at-after_hart_read (bus_of hs) hart line q ∙ holding_at-bus_of hs q))
+      (λ h q l. let many_new = harts-bus_of new in let old : h < length hs = omega (arith, e.as_many, many_new) in
+      in_hart_l1-bus_of new h q (omega (arith, many_new))
+      ∙ near_new h q old (h == hart) refl
+      ∙ sym (in_hart_l1-after_hart_read (bus_of hs) hart line h q (omega (arith, many))))
 
 answered : (b t : Bool) (c : Line) → option_map {U = Line × ℕ} (λ d. (d, cond t 1 2)) (cond b (Some c) None) ≡ cond b (Some (c, cond t 1 2)) None
 answered true t c = refl

@@ -1,11 +1,10 @@
 -- Levels with marks of ownership as one hart's caches, and what each change is to the caches.
-use Rattle.std.proofs.Common.{◌≡◌, ℕ, ◌<◌, ◌%◌, Bool, true, false, cond, not, ◌&&◌, ◌||◌, List, length, get_or, set, Option, Some, None, is_some, refl, sym, ap, ◌∙◌, arith, length-set}
+use Rattle.std.proofs.Common.{◌≡◌, ℕ, ◌<◌, ◌%◌, Bool, true, false, cond, not, ◌&&◌, List, length, get_or, set, refl, sym, ap, ◌∙◌, arith, length-set}
 use Rattle.std.specs.Prelude.{◌==◌}
-use Rattle.std.specs.FinSet.{contains}
 use Rattle.std.proofs.lemmas.List.{get_or-set_same, get_or-set_other, get_or_default}
 use Rattle.std.proofs.lemmas.Bool.Decides.{nat_tests}
 use Rattle.dash_base.specs.declared.line.Line.{Line}
-use Rattle.cache_array.specs.View.{ArrayView, copy_at, has_line, empty_array, with_copy, without_line, HasRoom, IsOnePerIndex}
+use Rattle.cache_array.specs.View.{ArrayView, has_line, empty_array, with_copy, without_line, HasRoom, IsOnePerIndex}
 use Rattle.cache_array.proofs.Lines.{copy_at-empty_array, copy_at-with_copy, copy_at-without_line, lines-empty_array, lines-with_copy, lines-without_line}
 use Rattle.cache_levels.specs.View.{LevelsView, empty_levels, with_level_copy, without_level_line, after_read}
 use Rattle.cache_levels.specs.Within.{lines_in}
@@ -37,10 +36,10 @@ pub caches_of-with : (marks : List Bool) (v : LevelsView) (l : ℕ) (c : Line) (
 caches_of-with marks v l c own m room =
     let new = set marks (l % length marks) own in
     same_caches _ _ (sym (levels-caches_with (caches_of marks v) l c own))
-        (λ q. owns-caches_of new (with_level_copy v l c) q
-            ∙ ap (λ (a : ArrayView). marked new a q) (l2-with_level_copy v l c)
-            ∙ marked-with marks v.l2 l c own m room q (l % length marks) (q % (with_copy v.l2 l c).lines) refl (ap (λ n. q % n) (lines-with_copy v.l2 l c))
-            ∙ sym (owns-caches_with (caches_of marks v) l c own q ∙ ap (cond (q == l) own) (owns-caches_of marks v q)))
+    (λ q. owns-caches_of new (with_level_copy v l c) q
+    ∙ ap (λ (a : ArrayView). marked new a q) (l2-with_level_copy v l c)
+    ∙ marked-with marks v.l2 l c own m room q (l % length marks) (q % (with_copy v.l2 l c).lines) refl (ap (λ n. q % n) (lines-with_copy v.l2 l c))
+    ∙ sym (owns-caches_with (caches_of marks v) l c own q ∙ ap (cond (q == l) own) (owns-caches_of marks v q)))
 
 pub marks-with : (marks : List Bool) (v : LevelsView) (l : ℕ) (c : Line) (own : Bool) (i : ℕ) → AreMarks marks v.l2 → AreMarks (set marks i own) (with_level_copy v l c).l2
 marks-with marks v l c own i m = record {
@@ -55,10 +54,10 @@ marked-written marks a l c held q =
 pub caches_of-written : (marks : List Bool) (v : LevelsView) (l : ℕ) (c : Line) → has_line v.l2 l ≡ true → caches_of marks (with_level_copy v l c) ≡ caches_written (caches_of marks v) l c
 caches_of-written marks v l c held =
     same_caches _ _ (sym (levels-caches_written (caches_of marks v) l c))
-        (λ q. owns-caches_of marks (with_level_copy v l c) q
-            ∙ ap (λ (a : ArrayView). marked marks a q) (l2-with_level_copy v l c)
-            ∙ marked-written marks v.l2 l c held q
-            ∙ sym (owns-caches_written (caches_of marks v) l c q ∙ owns-caches_of marks v q))
+    (λ q. owns-caches_of marks (with_level_copy v l c) q
+    ∙ ap (λ (a : ArrayView). marked marks a q) (l2-with_level_copy v l c)
+    ∙ marked-written marks v.l2 l c held q
+    ∙ sym (owns-caches_written (caches_of marks v) l c q ∙ owns-caches_of marks v q))
 
 marked-without : (marks : List Bool) (a : ArrayView) (l q : ℕ) → marked marks (without_line a l) q ≡ (not (q == l) && marked marks a q)
 marked-without marks a l q = grind (arith, nat_tests, copy_at-without_line a l q, lines-without_line a l)
@@ -66,10 +65,10 @@ marked-without marks a l q = grind (arith, nat_tests, copy_at-without_line a l q
 pub caches_of-without : (marks : List Bool) (v : LevelsView) (l : ℕ) → caches_of marks (without_level_line v l) ≡ caches_without (caches_of marks v) l
 caches_of-without marks v l =
     same_caches _ _ (sym (levels-caches_without (caches_of marks v) l))
-        (λ q. owns-caches_of marks (without_level_line v l) q
-            ∙ ap (λ (a : ArrayView). marked marks a q) (l2-without_level_line v l)
-            ∙ marked-without marks v.l2 l q
-            ∙ sym (owns-caches_without (caches_of marks v) l q ∙ ap (λ b. not (q == l) && b) (owns-caches_of marks v q)))
+    (λ q. owns-caches_of marks (without_level_line v l) q
+    ∙ ap (λ (a : ArrayView). marked marks a q) (l2-without_level_line v l)
+    ∙ marked-without marks v.l2 l q
+    ∙ sym (owns-caches_without (caches_of marks v) l q ∙ ap (λ b. not (q == l) && b) (owns-caches_of marks v q)))
 
 marked-shared : (marks : List Bool) (a : ArrayView) (l : ℕ) → AreMarks marks a → IsOnePerIndex a → has_line a l ≡ true → (q i j : ℕ) → i ≡ l % length marks → j ≡ q % a.lines → (has_line a q && get_or (set marks i false) j false) ≡ (not (q == l) && (has_line a q && get_or marks j false))
 marked-shared marks a l m one held q i j is js =
@@ -79,9 +78,9 @@ marked-shared marks a l m one held q i j is js =
 pub caches_of-shared : (marks : List Bool) (v : LevelsView) (l : ℕ) → AreMarks marks v.l2 → IsOnePerIndex v.l2 → has_line v.l2 l ≡ true → caches_of (set marks (l % length marks) false) v ≡ caches_shared (caches_of marks v) l
 caches_of-shared marks v l m one held =
     same_caches _ _ (sym (levels-caches_shared (caches_of marks v) l))
-        (λ q. owns-caches_of (set marks (l % length marks) false) v q
-            ∙ marked-shared marks v.l2 l m one held q (l % length marks) (q % v.l2.lines) refl refl
-            ∙ sym (owns-caches_shared (caches_of marks v) l q ∙ ap (λ b. not (q == l) && b) (owns-caches_of marks v q)))
+    (λ q. owns-caches_of (set marks (l % length marks) false) v q
+    ∙ marked-shared marks v.l2 l m one held q (l % length marks) (q % v.l2.lines) refl refl
+    ∙ sym (owns-caches_shared (caches_of marks v) l q ∙ ap (λ b. not (q == l) && b) (owns-caches_of marks v q)))
 
 marked-lacking : (marks : List Bool) (a : ArrayView) (l : ℕ) → has_line a l ≡ false → (q : ℕ) → marked marks a q ≡ (not (q == l) && marked marks a q)
 marked-lacking marks a l lacks q = grind (arith, nat_tests)
@@ -89,16 +88,16 @@ marked-lacking marks a l lacks q = grind (arith, nat_tests)
 pub caches_of-lacking : (marks : List Bool) (v : LevelsView) (l : ℕ) → has_line v.l2 l ≡ false → caches_of marks v ≡ caches_shared (caches_of marks v) l
 caches_of-lacking marks v l lacks =
     same_caches _ _ (sym (levels-caches_shared (caches_of marks v) l))
-        (λ q. owns-caches_of marks v q
-            ∙ marked-lacking marks v.l2 l lacks q
-            ∙ sym (owns-caches_shared (caches_of marks v) l q ∙ ap (λ b. not (q == l) && b) (owns-caches_of marks v q)))
+    (λ q. owns-caches_of marks v q
+    ∙ marked-lacking marks v.l2 l lacks q
+    ∙ sym (owns-caches_shared (caches_of marks v) l q ∙ ap (λ b. not (q == l) && b) (owns-caches_of marks v q)))
 
 pub caches_of-read : (marks : List Bool) (v : LevelsView) (l : ℕ) → caches_of marks (after_read v l) ≡ caches_read (caches_of marks v) l
 caches_of-read marks v l =
     same_caches _ _ (sym (levels-caches_read (caches_of marks v) l))
-        (λ q. owns-caches_of marks (after_read v l) q
-            ∙ ap (λ (a : ArrayView). marked marks a q) (l2-after_read v l)
-            ∙ sym (owns-caches_read (caches_of marks v) l q ∙ owns-caches_of marks v q))
+    (λ q. owns-caches_of marks (after_read v l) q
+    ∙ ap (λ (a : ArrayView). marked marks a q) (l2-after_read v l)
+    ∙ sym (owns-caches_read (caches_of marks v) l q ∙ owns-caches_of marks v q))
 
 marked-empty : (marks : List Bool) (n q : ℕ) → marked marks (empty_array n) q ≡ false
 marked-empty marks n q = grind (arith, copy_at-empty_array n q)
@@ -106,10 +105,10 @@ marked-empty marks n q = grind (arith, copy_at-empty_array n q)
 pub caches_of-empty : (marks : List Bool) (m n : ℕ) → caches_of marks (empty_levels m n) ≡ no_caches m n
 caches_of-empty marks m n =
     same_caches _ _ (sym (levels-no_caches m n))
-        (λ q. owns-caches_of marks (empty_levels m n) q
-            ∙ ap (λ (a : ArrayView). marked marks a q) (l2-empty_levels m n)
-            ∙ marked-empty marks n q
-            ∙ sym (owns-no_caches m n q))
+    (λ q. owns-caches_of marks (empty_levels m n) q
+    ∙ ap (λ (a : ArrayView). marked marks a q) (l2-empty_levels m n)
+    ∙ marked-empty marks n q
+    ∙ sym (owns-no_caches m n q))
 
 -- there stays a mark at each index
 pub marks-written : (marks : List Bool) (v : LevelsView) (l : ℕ) (c : Line) → AreMarks marks v.l2 → AreMarks marks (with_level_copy v l c).l2

@@ -1,5 +1,5 @@
 -- The steps of a bus, from what its calls know of it as a value.
-use Rattle.std.proofs.Common.{◌≡◌, ◌≢◌, ℕ, ◌+◌, ◌<◌, ◌≤◌, Bool, true, false, cond, not, List, [], ◌∷◌, length, get_or, set, replicate, Option, Some, None, is_some, option_map, refl, sym, ap, ◌∙◌, arith, subst, length-set, ◌%◌, zero, suc}
+use Rattle.std.proofs.Common.{◌≡◌, ◌≢◌, ℕ, ◌<◌, ◌≤◌, Bool, true, false, cond, List, length, get_or, set, replicate, Option, Some, None, option_map, refl, sym, ap, ◌∙◌, arith, subst, length-set, ◌%◌, zero, suc}
 use Rattle.std.specs.Prelude.{◌==◌, MatchOption, IsSome}
 use Rattle.std.proofs.lemmas.List.{get_or-set_same, get_or-set_other, get_or_default, get_or-replicate, length-replicate}
 use Rattle.std.proofs.lemmas.Bool.Decides.{nat_tests}
@@ -7,11 +7,11 @@ use Rattle.dash_base.specs.declared.line.Line.{Line}
 use Rattle.dash_base.specs.declared.id.LineId.{LineId}
 use Rattle.cache_array.specs.View.{copy_at, has_line, HasRoom, IsOther, empty_array}
 use Rattle.cache_array.proofs.Lines.{copy_at-empty_array, lines-empty_array, one_per_index-empty_array}
-use Rattle.cache_levels.specs.View.{in_l1, empty_levels, IsPartOfL2}
+use Rattle.cache_levels.specs.View.{in_l1, IsPartOfL2}
 use Rattle.cache_levels.proofs.Lines.{l2-empty_levels, l1_lines-empty_levels, in_l1-empty_levels, part-empty_levels}
 use Rattle.snoop_bus.specs.Caches.{CachesView, owns, no_caches}
-use Rattle.snoop_bus.specs.Holding.{Holding, holders_in, owner_in, copy_in, joined_by, owned_by, held_by}
-use Rattle.snoop_bus.specs.View.{BusView, harts, holding_at, is_holder, in_hart_l1, nobody, all_but, changed, HasHartRoom, IsHartOther, empty_bus}
+use Rattle.snoop_bus.specs.Holding.{holders_in, owner_in, copy_in, joined_by, owned_by}
+use Rattle.snoop_bus.specs.View.{BusView, harts, nobody, all_but, HasHartRoom, IsHartOther, empty_bus}
 use Rattle.snoop_bus.specs.Shared.{hart_copy, gathered, gathered_holders, gathered_owner, gathered_copy, first_l1_lines, first_l2_lines, bus_of, IsSpread, IsHartOf, AreOneMap}
 use Rattle.snoop_bus.specs.Changes.{EachBecomes, HasRoomAt, joined, taken}
 use Rattle.snoop_bus.proofs.CachesLines.{levels-no_caches, owns-no_caches}
@@ -72,8 +72,10 @@ owned-gathered hs line owned none = owned (ap (λ r. owner_in (option_map (λ co
 
 -- room, by the bus and by the hart
 pub room_at : (hs : List CachesView) (b : BusView) (hart line : ℕ) → AreOneMap hs → bus_of hs ≡ b → HasHartRoom b hart line → HasRoomAt hs hart line
-room_at hs b hart line one is room = record { room = λ d low.
-    subst (λ x. HasRoom x.levels.l2 line) (get_or_default hs hart any_caches d low) (room_of_bus hs hart line one low (subst (λ c. HasHartRoom c hart line) (sym is) room)) }
+room_at hs b hart line one is room = record {
+  room = λ d low.
+      subst (λ x. HasRoom x.levels.l2 line) (get_or_default hs hart any_caches d low) (room_of_bus hs hart line one low (subst (λ c. HasHartRoom c hart line) (sym is) room));
+}
 
 -- one hart more holds a line
 joins_from : (hs new : List CachesView) (hart line : ℕ) (r : Option Line) → AreOneMap hs → hart < length hs → HasRoomAt hs hart line → gathered_copy hs line ≡ r → r ≢ None → EachBecomes (joined hs hart line) hs new → Step hs new nobody line (joined_by hart (gathered hs line))
@@ -153,16 +155,16 @@ fresh_bus n l1 l2 some =
     let first = first_fresh n l1 l2 some in
     let many = length-replicate n (no_caches l1 l2) in
     same_bus _ _
-      (l1_lines-bus_of (fresh n l1 l2) ∙ first.0 ∙ sym (l1_lines-empty_bus n l1 l2))
-      (l2_lines-bus_of (fresh n l1 l2) ∙ first.1 ∙ sym (l2_lines-empty_bus n l1 l2))
-      (harts-bus_of (fresh n l1 l2) ∙ many ∙ sym (harts-empty_bus n l1 l2))
-      (λ q. holding_at-bus_of (fresh n l1 l2) q ∙ gathered_fresh n l1 l2 q ∙ sym (holding_at-empty_bus n l1 l2 q))
-      (λ h q l. let low : h < length (fresh n l1 l2) = omega (arith, harts-bus_of (fresh n l1 l2)) in
-          in_hart_l1-bus_of (fresh n l1 l2) h q low
-          ∙ ap (λ (x : CachesView). in_l1 x.levels q) (fresh_at n l1 l2 h any_caches low)
-          ∙ ap (λ v. in_l1 v q) (levels-no_caches l1 l2)
-          ∙ in_l1-empty_levels l1 l2 q
-          ∙ sym (in_hart_l1-empty_bus n l1 l2 h q))
+    (l1_lines-bus_of (fresh n l1 l2) ∙ first.0 ∙ sym (l1_lines-empty_bus n l1 l2))
+    (l2_lines-bus_of (fresh n l1 l2) ∙ first.1 ∙ sym (l2_lines-empty_bus n l1 l2))
+    (harts-bus_of (fresh n l1 l2) ∙ many ∙ sym (harts-empty_bus n l1 l2))
+    (λ q. holding_at-bus_of (fresh n l1 l2) q ∙ gathered_fresh n l1 l2 q ∙ sym (holding_at-empty_bus n l1 l2 q))
+    (λ h q l. let low : h < length (fresh n l1 l2) = omega (arith, harts-bus_of (fresh n l1 l2)) in
+    in_hart_l1-bus_of (fresh n l1 l2) h q low
+    ∙ ap (λ (x : CachesView). in_l1 x.levels q) (fresh_at n l1 l2 h any_caches low)
+    ∙ ap (λ v. in_l1 v q) (levels-no_caches l1 l2)
+    ∙ in_l1-empty_levels l1 l2 q
+    ∙ sym (in_hart_l1-empty_bus n l1 l2 h q))
 
 -- what is not nothing is there
 pub some_of : (o : Option Line) → o ≢ None → IsSome o

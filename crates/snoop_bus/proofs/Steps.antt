@@ -1,18 +1,16 @@
 -- Each change of the bus: what becomes of each hart, and that the arrays of all harts stay one map.
-use Rattle.std.proofs.Common.{◌≡◌, ◌≢◌, ℕ, ◌+◌, ◌<◌, ◌≤◌, Bool, true, false, cond, not, ◌&&◌, ◌||◌, List, [], length, get_or, Option, Some, None, is_some, refl, sym, ap, ◌∙◌, arith, subst, option_map}
+use Rattle.std.proofs.Common.{◌≡◌, ◌≢◌, ℕ, ◌<◌, ◌≤◌, Bool, true, false, cond, not, ◌&&◌, ◌||◌, List, [], length, get_or, Option, Some, None, is_some, refl, sym, ap, ◌∙◌, arith, subst, option_map}
 use Rattle.std.specs.Prelude.{◌==◌}
 use Rattle.std.proofs.lemmas.Bool.Decides.{nat_tests}
 use Rattle.dash_base.specs.declared.line.Line.{Line}
 use Rattle.cache_array.specs.View.{has_line, HasRoom, IsOnePerIndex}
 use Rattle.cache_levels.specs.View.{IsPartOfL2}
 use Rattle.snoop_bus.specs.Caches.{CachesView, owns, caches_with, caches_written, caches_without, caches_shared}
-use Rattle.snoop_bus.specs.Holding.{Holding, has_hart, alone, with_hart, without_hart, is_owner, holders_in, owner_in, copy_in, joined_by, owned_by, held_by, rewritten, left_by, disowned, IsProper, IsProperHolding}
-use Rattle.snoop_bus.specs.View.{BusView, harts, holding_at, changed, nobody, everybody, only, all_but, HasHartRoom, after_bus_read, after_bus_own, after_commit, after_install, after_drop, after_clear, after_downgrade}
+use Rattle.snoop_bus.specs.Holding.{Holding, has_hart, alone, without_hart, is_owner, holders_in, owner_in, joined_by, owned_by, held_by, rewritten, left_by, disowned, IsProper, IsProperHolding}
+use Rattle.snoop_bus.specs.View.{changed, nobody, everybody, only, all_but}
 use Rattle.snoop_bus.specs.Shared.{hart_copy, gathered, gathered_copy, bus_of, share_of_copy, share_of_owner, IsSpread, AreOneMap}
-use Rattle.snoop_bus.specs.Changes.{EachBecomes, HasRoomAt, given, joined, taken}
+use Rattle.snoop_bus.specs.Changes.{EachBecomes, HasRoomAt, given, joined, taken, dropped}
 use Rattle.snoop_bus.proofs.Bits.{has_hart-alone, has_hart-with_hart, has_hart-without_hart, has_hart-without_hart_only, has_hart-zero}
-use Rattle.snoop_bus.proofs.Gathered.{any_caches}
-use Rattle.snoop_bus.proofs.Table.{holding_at-bus_of}
 use Rattle.snoop_bus.proofs.Becomes.{HartBecomes, stays_one_map, becomes_changed}
 use Rattle.snoop_bus.proofs.Hart.{becomes-without, becomes-same, becomes-with, becomes-written, becomes-shared}
 
@@ -31,7 +29,7 @@ step hs new f p line o one e proper each = record {
 pub clears : (hs new : List CachesView) (line : ℕ) → AreOneMap hs → EachBecomes (λ k h. caches_without h line) hs new → Step hs new everybody line None
 clears hs new line one e =
     step hs new (λ k h. caches_without h line) everybody line None one e tt
-        (λ h d low. becomes-without everybody line None h (get_or hs h d) refl refl refl (one.each h d low).one (one.each h d low).part)
+    (λ h d low. becomes-without everybody line None h (get_or hs h d) refl refl refl (one.each h d low).one (one.each h d low).part)
 
 -- one hart alone has the line
 alone_some : (hart n : ℕ) → n ≡ alone hart → n ≢ 0
@@ -71,7 +69,7 @@ room_here hs hart line k d room low is =
 pub takes : (hs new : List CachesView) (hart line : ℕ) (c : Line) (own : Bool) → AreOneMap hs → hart < length hs → HasRoomAt hs hart line → EachBecomes (taken hart line c own) hs new → Step hs new (all_but hart) line (held_by hart c own)
 takes hs new hart line c own one low room e =
     step hs new (taken hart line c own) (all_but hart) line (held_by hart c own) one e (held_proper (length hs) hart c own low)
-        (λ k d l. takes_at hart line c own k (get_or hs k d) (k == hart) refl (room_here hs hart line k d room l) (one.each k d l).one (one.each k d l).part)
+    (λ k d l. takes_at hart line c own k (get_or hs k d) (k == hart) refl (room_here hs hart line k d room l) (one.each k d l).one (one.each k d l).part)
 
 -- a holding that is there, and its copy
 pub gathered_there : (hs : List CachesView) (line : ℕ) (c : Line) → gathered_copy hs line ≡ Some c → (g : Holding) × (gathered hs line ≡ Some g) × (g.copy ≡ c)
@@ -123,8 +121,8 @@ pub joins : (hs new : List CachesView) (hart line : ℕ) (g : Holding) → AreOn
 joins hs new hart line g one low room is copy e =
     let s = subst (λ o. IsSpread hs line o) is (one.spread line) in
     step hs new (joined hs hart line) nobody line (joined_by hart (Some g)) one e (joined_proper (length hs) hart g low s.proper)
-        (λ k d l. subst (λ o. HartBecomes nobody line (joined_by hart (Some g)) k (get_or hs k d) (cond (k == hart) (given o line (get_or hs k d)) (get_or hs k d))) (sym copy)
-            (joins_at (length hs) hart line g k (get_or hs k d) (k == hart) refl (s.copies k d l) (s.owners k d l) s.proper (room_here hs hart line k d room l) (one.each k d l).one (one.each k d l).part))
+    (λ k d l. subst (λ o. HartBecomes nobody line (joined_by hart (Some g)) k (get_or hs k d) (cond (k == hart) (given o line (get_or hs k d)) (get_or hs k d))) (sym copy)
+    (joins_at (length hs) hart line g k (get_or hs k d) (k == hart) refl (s.copies k d l) (s.owners k d l) s.proper (room_here hs hart line k d room l) (one.each k d l).one (one.each k d l).part))
 
 -- a line that no hart owns any more
 disowned_share : (o : Option Holding) (k : ℕ) → share_of_copy (disowned o) k ≡ share_of_copy o k
@@ -143,7 +141,7 @@ pub disowns : (hs new : List CachesView) (line : ℕ) → AreOneMap hs → EachB
 disowns hs new line one e =
     let s = one.spread line in
     step hs new (λ k h. caches_shared h line) nobody line (disowned (gathered hs line)) one e (disowned_proper (length hs) (gathered hs line) s.proper)
-        (λ k d l. becomes-shared nobody line (disowned (gathered hs line)) k (get_or hs k d) refl (disowned_share (gathered hs line) k ∙ sym (s.copies k d l)) (disowned_owner (gathered hs line) k) (one.each k d l).one (one.each k d l).part)
+    (λ k d l. becomes-shared nobody line (disowned (gathered hs line)) k (get_or hs k d) refl (disowned_share (gathered hs line) k ∙ sym (s.copies k d l)) (disowned_owner (gathered hs line) k) (one.each k d l).one (one.each k d l).part)
 
 -- a line that its only holder writes
 abbrev pub written_at : ℕ → ℕ → Line → ℕ → CachesView → CachesView
@@ -185,18 +183,14 @@ pub writes : (hs new : List CachesView) (hart line : ℕ) (c : Line) → AreOneM
 writes hs new hart line c one owner only e =
     let s = one.spread line in
     step hs new (written_at hart line c) nobody line (rewritten c (gathered hs line)) one e (written_proper (length hs) (gathered hs line) c s.proper)
-        (λ k d l. writes_at hart line c (gathered hs line) k (get_or hs k d) (k == hart) refl owner only (s.copies k d l) (s.owners k d l) (one.each k d l).one (one.each k d l).part)
+    (λ k d l. writes_at hart line c (gathered hs line) k (get_or hs k d) (k == hart) refl owner only (s.copies k d l) (s.owners k d l) (one.each k d l).one (one.each k d l).part)
 
 -- the only holder has the line
 pub holder_has : (hs : List CachesView) (hart line : ℕ) (d : CachesView) → AreOneMap hs → hart < length hs → owner_in (gathered hs line) ≡ Some hart → holders_in (gathered hs line) ≡ alone hart → has_line (get_or hs hart d).levels.l2 line ≡ true
 holder_has hs hart line d one low owner only =
     ap is_some ((one.spread line).copies hart d low) ∙ (written_share (gathered hs line) hart (record { words = []; version = 0 }) hart true owner only (grind (arith, nat_tests))).1
 
--- a line that one hart drops
-abbrev pub dropped_at : ℕ → ℕ → ℕ → CachesView → CachesView
-dropped_at hart line k h = cond (k == hart) (caches_without h line) h
-
--- the rest of a holding, by whether any holder is left
+-- a line that one hart drops: the rest of a holding, by whether any holder is left
 abbrev rest_of : Bool → ℕ → Holding → Option Holding
 rest_of z hart g = cond z None (Some (record { holders = without_hart g.holders hart; owner = cond (is_owner g.owner hart) None g.owner; copy = g.copy }))
 
@@ -267,10 +261,10 @@ drops_at n hart line o k x true is p low klow copy own one part =
 drops_at n hart line o k x false is p low klow copy own one part =
     becomes-same (only hart) line (left_by hart o) k x is (left_copy o hart k low klow false is ∙ sym copy) (left_owner n o hart k p low klow false is ∙ sym own) one part
 
-pub drops : (hs new : List CachesView) (hart line : ℕ) → AreOneMap hs → hart < length hs → EachBecomes (dropped_at hart line) hs new → Step hs new (only hart) line (left_by hart (gathered hs line))
+pub drops : (hs new : List CachesView) (hart line : ℕ) → AreOneMap hs → hart < length hs → EachBecomes (dropped hart line) hs new → Step hs new (only hart) line (left_by hart (gathered hs line))
 drops hs new hart line one low e =
     let s = one.spread line in
     let hart_low : hart < 32 = omega (arith, one.few) in
     let few : length hs ≤ 32 = omega (arith, one.few) in
-    step hs new (dropped_at hart line) (only hart) line (left_by hart (gathered hs line)) one e (left_proper (length hs) (gathered hs line) hart s.proper hart_low few)
-        (λ k d l. drops_at (length hs) hart line (gathered hs line) k (get_or hs k d) (k == hart) refl s.proper hart_low (omega arith) (s.copies k d l) (s.owners k d l) (one.each k d l).one (one.each k d l).part)
+    step hs new (dropped hart line) (only hart) line (left_by hart (gathered hs line)) one e (left_proper (length hs) (gathered hs line) hart s.proper hart_low few)
+    (λ k d l. drops_at (length hs) hart line (gathered hs line) k (get_or hs k d) (k == hart) refl s.proper hart_low (omega arith) (s.copies k d l) (s.owners k d l) (one.each k d l).one (one.each k d l).part)

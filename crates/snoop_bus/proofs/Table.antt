@@ -1,26 +1,23 @@
 -- The table of what is gathered, read at any line.
-use Rattle.std.proofs.Common.{◌≡◌, ℕ, ◌+◌, ◌<◌, Bool, true, false, cond, ◌||◌, List, [], ◌∷◌, ◌++◌, length, map, get_or, Option, Some, None, is_some, refl, sym, ap, ◌∙◌, arith}
+use Rattle.std.proofs.Common.{◌≡◌, ℕ, Bool, true, false, cond, ◌||◌, List, [], ◌∷◌, Option, Some, None, is_some, refl, sym, ap, ◌∙◌, arith}
 use Rattle.std.specs.Prelude.{◌==◌}
 use Rattle.std.specs.List.{list_any}
 use Rattle.std.specs.Ordering.{nat_cmp, eq_by_cmp}
 use Rattle.std.specs.Cmp.{unsigned_tied}
 use Rattle.std.specs.FinMap as fin
-use Rattle.std.specs.FinMap.{FinMap, get, insert}
+use Rattle.std.specs.FinMap.{FinMap, get}
 use Rattle.std.proofs.lemmas.List.Folds.{list_any-append}
 use Rattle.std.proofs.lemmas.Bool.Decides.{nat_tests}
-use Rattle.cache_array.specs.View.{copy_at, has_line, ArrayView}
+use Rattle.cache_array.specs.View.{copy_at}
 use Rattle.cache_array.proofs.LineMaps.{get-empty_nat, get-insert_nat}
 use Rattle.snoop_bus.specs.Caches.{CachesView}
 use Rattle.snoop_bus.specs.Holding.{Holding}
-use Rattle.snoop_bus.specs.View.{BusView, holding_at}
-use Rattle.snoop_bus.specs.Shared.{hart_copy, gathered_copy, gathered, lines_of, put_some, table, bus_of}
+use Rattle.snoop_bus.specs.View.{holding_at}
+use Rattle.snoop_bus.specs.Shared.{gathered_copy, gathered, lines_of, put_some, table, bus_of}
 
 -- whether a line is among these
 abbrev among : ℕ → List ℕ → Bool
 among q ks = list_any (eq_by_cmp nat_cmp q) ks
-
-same_line : (q k : ℕ) (b : Bool) → (q == k) ≡ b → eq_by_cmp nat_cmp q k ≡ b
-same_line q k b e = unsigned_tied q k ∙ e
 
 get-put_some : (m : FinMap nat_cmp Holding) (k : ℕ) (o : Option Holding) (q : ℕ) → get (put_some m k o) q ≡ cond (q == k) (cond (is_some o) o (get m q)) (get m q)
 get-put_some m k None q = elim (q == k) as (λ b. get m q ≡ cond b (get m q) (get m q)) [ true ↦ refl | false ↦ refl ]

@@ -1,5 +1,5 @@
 -- What becomes of each hart's caches.
-use Rattle.std.specs.Prelude.{◌≡◌, ◌≢◌, ℕ, ◌<◌, ◌==◌, Bool, false, List, length, Option, Some, None, slice_index_or, if◌then◌else◌}
+use Rattle.std.specs.Prelude.{◌≡◌, ℕ, ◌<◌, ◌==◌, Bool, false, List, length, Option, Some, None, slice_index_or, if◌then◌else◌}
 use Rattle.dash_base.specs.declared.line.Line.{Line}
 use Rattle.cache_array.specs.View.{has_line, HasRoom}
 use Rattle.snoop_bus.specs.Caches.{CachesView, caches_with, caches_without}
@@ -26,3 +26,7 @@ joined hs hart line k h = if k == hart then given (gathered_copy hs line) line h
 -- one hart has this copy of a line, and each other one lacks the line
 abbrev pub taken : ℕ → ℕ → Line → Bool → ℕ → CachesView → CachesView
 taken hart line copy own k h = if k == hart then caches_with h line copy own else caches_without h line
+
+-- one hart lacks the line
+abbrev pub dropped : ℕ → ℕ → ℕ → CachesView → CachesView
+dropped hart line k h = if k == hart then caches_without h line else h

@@ -1,5 +1,5 @@
 -- Marks of ownership, one at each index of L2.
-use Rattle.std.specs.Prelude.{◌≡◌, ℕ, ◌<◌, ◌%◌, Bool, false, List, length, slice_index_or}
+use Rattle.std.specs.Prelude.{◌≡◌, ◌<◌, ◌%◌, Bool, false, List, length, slice_index_or}
 use Rattle.std.specs.Ordering.{nat_cmp}
 use Rattle.std.specs.FinSet.{FinSet, retain}
 use Rattle.cache_array.specs.View.{ArrayView}

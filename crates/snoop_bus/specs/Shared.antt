@@ -1,11 +1,11 @@
 -- The caches of all harts as one map.
-use Rattle.std.specs.Prelude.{◌≡◌, ℕ, ◌+◌, ◌*◌, ◌<◌, ◌≤◌, Bool, true, false, List, [], ◌∷◌, ◌++◌, length, map, Option, Some, None, option_map, is_some, slice_index_or, if◌then◌else◌}
+use Rattle.std.specs.Prelude.{◌≡◌, ℕ, ◌+◌, ◌*◌, ◌<◌, ◌≤◌, Bool, false, List, [], ◌∷◌, ◌++◌, length, map, Option, Some, None, option_map, slice_index_or, if◌then◌else◌}
 use Rattle.std.specs.Ordering.{nat_cmp}
 use Rattle.std.specs.FinMap as fin
 use Rattle.std.specs.FinMap.{FinMap}
 use Rattle.dash_base.specs.declared.line.Line.{Line}
 use Rattle.cache_array.specs.View.{copy_at, has_line, IsOnePerIndex}
-use Rattle.cache_levels.specs.View.{in_l1, IsPartOfL2}
+use Rattle.cache_levels.specs.View.{IsPartOfL2}
 use Rattle.snoop_bus.specs.Caches.{CachesView, owns}
 use Rattle.snoop_bus.specs.Holding.{Holding, has_hart, is_owner, IsProper}
 use Rattle.snoop_bus.specs.View.{BusView}

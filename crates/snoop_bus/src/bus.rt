@@ -43,6 +43,13 @@ impl Bus {
         })
     }
 
+    /// How many harts there are. Each hart of a call is below this.
+    pub fn harts(&self) -> u32
+        ensures { result ≡ harts self.now }
+    {
+        self.harts.len() as u32
+    }
+
     /// The harts that hold a line: bit `i` for the hart `i`.
     pub fn holders(&self, line: LineId) -> u32
         ensures holders { result ≡ holders_at self.now line.0 }
@@ -143,8 +150,7 @@ impl Bus {
         requires { hart < harts self.old }
         ensures { self.new ≡ after_drop self.old hart line.0 }
     {
-        let caches = &mut self.harts[hart as usize];
-        caches.clear(line);
+        harts::leave(&mut self.harts, hart as usize, line);
     }
 
     /// No hart holds a line any more.

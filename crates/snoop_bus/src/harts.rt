@@ -3,7 +3,7 @@ ghost use Rattle.std.specs.Prelude.{◌≡◌, ◌≢◌, ◌<◌, ◌≤◌, �
 ghost use Rattle.cache_array.specs.View.{HasRoom};
 ghost use Rattle.snoop_bus.specs.Caches.{CachesView, no_caches, caches_without, caches_shared};
 ghost use Rattle.snoop_bus.specs.Shared.{gathered_holders, gathered_owner, gathered_copy};
-ghost use Rattle.snoop_bus.specs.Changes.{EachBecomes, HasRoomAt, joined, taken};
+ghost use Rattle.snoop_bus.specs.Changes.{EachBecomes, HasRoomAt, joined, taken, dropped};
 
 use crate::hart_caches::HartCaches;
 use dash_base::{Line, LineId, OutOfMemory};
@@ -86,6 +86,15 @@ pub fn take(harts: &mut [HartCaches], hart: usize, line: LineId, copy: Line, own
     caches.install(line, copy, own);
 }
 
+/// Clears a line from one hart.
+pub fn leave(harts: &mut [HartCaches], hart: usize, line: LineId)
+    requires { hart < length harts.old }
+    ensures { EachBecomes (dropped hart line.0) harts.old harts.new }
+{
+    let leaving = &mut harts[hart];
+    leaving.clear(line);
+}
+
 /// Clears a line from all harts but one.
 fn clear_others(harts: &mut [HartCaches], hart: usize, line: LineId)
     ensures { EachBecomes (λ k h. if k == hart then h else caches_without h line.0) harts.old harts.new }
@@ -101,8 +110,8 @@ fn clear_others(harts: &mut [HartCaches], hart: usize, line: LineId)
 pub fn clear(harts: &mut [HartCaches], line: LineId)
     ensures { EachBecomes (λ k h. caches_without h line.0) harts.old harts.new }
 {
-    for caches in harts.iter_mut() {
-        caches.clear(line);
+    for each in harts.iter_mut() {
+        each.clear(line);
     }
 }
 

@@ -9,3 +9,5 @@ pub use bus::Bus;
 mod bus;
 mod hart_caches;
 mod harts;
+#[cfg(test)]
+mod tests;

@@ -1,12 +1,10 @@
-use Rattle.std.proofs.Common.{ap, ◌∙◌, sym, subst, arith, ◌≡◌, ◌≢◌, length, List, true, false, None, Some}
+use Rattle.std.proofs.Common.{ap, ◌∙◌, sym, subst, arith, ◌≢◌, length, List, true, None}
 use Rattle.std.proofs.lemmas.List.{with_items_is}
-use Rattle.std.specs.Prelude.{◌==◌}
-use Rattle.std.specs.Vec.{with_items}
-use Rattle.snoop_bus.specs.Caches.{CachesView, caches_without, caches_shared}
-use Rattle.snoop_bus.specs.Holding.{disowned, joined_by, owned_by, held_by, owner_in, copy_in}
-use Rattle.snoop_bus.specs.View.{BusView, changed, nobody, everybody, all_but, after_clear, after_downgrade, after_bus_read, after_bus_own, after_install, owner_at, copy_of}
+use Rattle.snoop_bus.specs.Caches.{CachesView}
+use Rattle.snoop_bus.specs.Holding.{owned_by, owner_in}
+use Rattle.snoop_bus.specs.View.{BusView, changed, all_but, after_bus_own, owner_at}
 use Rattle.snoop_bus.specs.Shared.{bus_of, AreOneMap}
-use Rattle.snoop_bus.specs.Changes.{EachBecomes, HasRoomAt, joined, taken}
+use Rattle.snoop_bus.specs.Changes.{EachBecomes, HasRoomAt, taken}
 use Rattle.snoop_bus.proofs.Table.{holding_at-bus_of}
 use Rattle.snoop_bus.specs.Shared.{gathered_copy}
 use Rattle.snoop_bus.proofs.OnBus.{low_hart, room_at, takes_owned, owned-gathered, some_of}
@@ -54,4 +52,4 @@ take-requires-clause-hart_in_range c =
 pub take-requires-clause-room : goal.take-requires-clause-room
 take-requires-clause-room c =
     subst (λ (xs : List CachesView). HasRoomAt xs c.args.hart c.args.line.0) (sym c.deref_mut.ensures.value)
-        (room_at c.self.inside.harts.items c.args.self.now c.args.hart c.args.line.0 c.self.invariant c.self.view_is c.requires.room)
+    (room_at c.self.inside.harts.items c.args.self.now c.args.hart c.args.line.0 c.self.invariant c.self.view_is c.requires.room)

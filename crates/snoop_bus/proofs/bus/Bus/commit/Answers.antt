@@ -1,9 +1,9 @@
-use Rattle.std.proofs.Common.{◌≡◌, Some, ap, ◌∙◌, sym, subst, arith}
+use Rattle.std.proofs.Common.{ap, ◌∙◌, sym, arith}
 use Rattle.cache_array.specs.View.{has_line}
 use Rattle.snoop_bus.specs.Caches.{CachesView, caches_written}
 use Rattle.snoop_bus.specs.Holding.{rewritten, owner_in, holders_in}
 use Rattle.snoop_bus.specs.View.{BusView, changed, nobody, after_commit, owner_at, holders_at}
-use Rattle.snoop_bus.specs.Shared.{bus_of, AreOneMap}
+use Rattle.snoop_bus.specs.Shared.{bus_of}
 use Rattle.snoop_bus.proofs.OnBus.{low_hart, set_becomes}
 use Rattle.snoop_bus.proofs.Steps.{writes, holder_has}
 use Rattle.snoop_bus.proofs.Table.{holding_at-bus_of}

@@ -1,15 +1,12 @@
-use Rattle.std.proofs.Common.{ap, ◌∙◌, sym, subst, arith, ◌≡◌, ◌≢◌, length, List, true, false, None, Some}
+use Rattle.std.proofs.Common.{ap, ◌∙◌, sym, subst, arith, List}
 use Rattle.std.proofs.lemmas.List.{with_items_is}
-use Rattle.std.specs.Prelude.{◌==◌}
-use Rattle.std.specs.Vec.{with_items}
-use Rattle.snoop_bus.specs.Caches.{CachesView, caches_without, caches_shared}
-use Rattle.snoop_bus.specs.Holding.{disowned, joined_by, owned_by, held_by, owner_in, copy_in}
-use Rattle.snoop_bus.specs.View.{BusView, changed, nobody, everybody, all_but, after_clear, after_downgrade, after_bus_read, after_bus_own, after_install, owner_at, copy_of}
+use Rattle.snoop_bus.specs.Caches.{CachesView, caches_shared}
+use Rattle.snoop_bus.specs.Holding.{disowned}
+use Rattle.snoop_bus.specs.View.{BusView, changed, nobody, after_downgrade}
 use Rattle.snoop_bus.specs.Shared.{bus_of, AreOneMap}
-use Rattle.snoop_bus.specs.Changes.{EachBecomes, HasRoomAt, joined, taken}
+use Rattle.snoop_bus.specs.Changes.{EachBecomes}
 use Rattle.snoop_bus.proofs.Table.{holding_at-bus_of}
 use Rattle.snoop_bus.proofs.Steps.{disowns}
-
 use Rattle.snoop_bus.proofs.bus.Bus.downgrade.Goals as goal
 
 pub invariant_of-self : goal.invariant_of-self

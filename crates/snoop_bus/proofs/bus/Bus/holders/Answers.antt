@@ -1,4 +1,4 @@
-use Rattle.std.proofs.Common.{ap, ◌∙◌, sym, subst, length, ◌≤◌}
+use Rattle.std.proofs.Common.{ap, ◌∙◌, sym, subst}
 use Rattle.snoop_bus.specs.Holding.{holders_in}
 use Rattle.snoop_bus.specs.View.{BusView, holders_at, IsOneMap}
 use Rattle.snoop_bus.specs.Shared.{gathered_holders}

@@ -1,4 +1,4 @@
-use Rattle.std.proofs.Common.{ap, ◌∙◌, ◌<◌, ◌≤◌, arith}
+use Rattle.std.proofs.Common.{ap, ◌∙◌}
 use Rattle.snoop_bus.specs.Shared.{bus_of}
 use Rattle.snoop_bus.proofs.OnBus.{fresh_one_map, fresh_bus}
 use Rattle.snoop_bus.proofs.bus.Bus.new.Goals as goal

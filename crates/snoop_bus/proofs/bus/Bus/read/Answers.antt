@@ -1,9 +1,8 @@
-use Rattle.std.proofs.Common.{ap, ◌∙◌, sym, subst, arith}
+use Rattle.std.proofs.Common.{ap, ◌∙◌, arith}
 use Rattle.std.proofs.lemmas.List.{get_or_default}
 use Rattle.cache_levels.specs.View.{read_of}
 use Rattle.snoop_bus.specs.Caches.{CachesView, caches_read}
 use Rattle.snoop_bus.specs.View.{BusView, hart_read_of, after_hart_read}
-use Rattle.snoop_bus.specs.Shared.{bus_of, AreOneMap}
 use Rattle.snoop_bus.proofs.Gathered.{any_caches}
 use Rattle.snoop_bus.proofs.OnBus.{low_hart, set_becomes}
 use Rattle.snoop_bus.proofs.HartReads.{reads_one_map, reads_bus, reads_answer}

@@ -1,4 +1,4 @@
-use Rattle.std.proofs.Common.{ap, ◌∙◌, sym, subst, arith, get_or}
+use Rattle.std.proofs.Common.{◌∙◌, subst, arith}
 use Rattle.std.specs.Prelude.{MatchOption}
 use Rattle.std.proofs.lemmas.List.{get_or_default}
 use Rattle.cache_array.specs.View.{HasRoom, IsOther}
@@ -19,5 +19,5 @@ returns c =
     let low = low_hart hs c.args.self.now c.args.hart c.self.view_is c.requires in
     let here = c.index.ensures ∙ get_or_default hs c.args.hart c.index.result.now any_caches low in
     subst (λ (b : BusView). MatchOption c.victim.result (HasHartRoom b c.args.hart c.args.line.0) (λ other. IsHartOther b c.args.hart c.args.line.0 other.0)) c.self.view_is
-        (other_of_bus hs c.args.hart c.args.line.0 c.victim.result c.self.invariant low
-            (subst (λ (x : CachesView). MatchOption c.victim.result (HasRoom x.levels.l2 c.args.line.0) (λ other. IsOther x.levels.l2 c.args.line.0 other.0)) here c.victim.ensures.other))
+    (other_of_bus hs c.args.hart c.args.line.0 c.victim.result c.self.invariant low
+    (subst (λ (x : CachesView). MatchOption c.victim.result (HasRoom x.levels.l2 c.args.line.0) (λ other. IsOther x.levels.l2 c.args.line.0 other.0)) here c.victim.ensures.other))

@@ -1,4 +1,4 @@
-use Rattle.std.proofs.Common.{ap, ◌∙◌, sym, arith, ◌≡◌, ◌%◌, length, set, true, false}
+use Rattle.std.proofs.Common.{ap, ◌∙◌, sym, ◌≡◌, ◌%◌, length, set, true, false}
 use Rattle.cache_array.specs.View.{has_line}
 use Rattle.snoop_bus.specs.Caches.{CachesView, caches_shared}
 use Rattle.snoop_bus.proofs.Marked.{caches_of, caches_of-shared, caches_of-lacking}

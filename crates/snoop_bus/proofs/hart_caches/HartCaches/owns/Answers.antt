@@ -1,7 +1,7 @@
-use Rattle.std.proofs.Common.{ap, ◌∙◌, sym, arith, ◌≡◌, ◌%◌, length, true, false, ◌&&◌, get_or}
+use Rattle.std.proofs.Common.{ap, ◌∙◌, sym, ◌≡◌, ◌%◌, length, true, false}
 use Rattle.cache_array.specs.View.{has_line}
 use Rattle.snoop_bus.specs.Caches.{CachesView, owns}
-use Rattle.snoop_bus.proofs.Marked.{owns-caches_of, mark_at, no_mark}
+use Rattle.snoop_bus.proofs.Marked.{mark_at, no_mark}
 use Rattle.snoop_bus.proofs.hart_caches.HartCaches.owns.Goals as goal
 
 pub returns-then-is_some : goal.returns-then-is_some

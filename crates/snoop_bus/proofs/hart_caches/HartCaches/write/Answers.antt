@@ -11,4 +11,4 @@ pub returns : goal.returns
 returns c =
     let held = subst (λ (h : CachesView). has_line h.levels.l2 c.args.line.0 ≡ true) (sym c.self.view_is) c.requires in
     rw c.write_owned.ensures
-        (caches_of-written c.self.inside.owned.items c.self.inside.levels c.args.line.0 c.args.copy held ∙ ap (λ (h : CachesView). caches_written h c.args.line.0 c.args.copy) c.self.view_is)
+    (caches_of-written c.self.inside.owned.items c.self.inside.levels c.args.line.0 c.args.copy held ∙ ap (λ (h : CachesView). caches_written h c.args.line.0 c.args.copy) c.self.view_is)
