@@ -69,7 +69,8 @@ impl Array {
 
     /// The other line that stands at this line's index. `None` where there is none.
     pub fn victim(&self, line: LineId) -> Option<LineId>
-        ensures other { MatchOption result (HasRoom self.now line.0) (λ other. IsOther self.now line.0 other.0) }
+        ensures other { MatchOption result (HasRoom self.now line.0)
+            (λ other. IsOther self.now line.0 other.0) }
         ensures one_per_index { IsOnePerIndex self.now }
     {
         places::other_at(&self.places, self.lines, line)

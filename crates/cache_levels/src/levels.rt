@@ -10,8 +10,8 @@ use dash_base::{Line, LineId, OutOfMemory};
 use std::alloc::Global;
 use std::marker::Model;
 
-/// The caches of one hart. Contracts see L2 as an array, and of L1 the number of its indexes and the
-/// set of the lines that it has, a part of those of L2.
+/// The caches of one hart. Contracts see L2 as an array, and of L1 the number of its indexes and
+/// the set of the lines that it has, a part of those of L2.
 #[derive(Drop)]
 pub struct Levels {
     l1: Array,
@@ -45,8 +45,8 @@ impl Levels {
     }
 
     /// The copy of a line and the level that it is read at: 1 where L1 has the line, and else 2. At
-    /// level 2 the line enters L1, in place of the line at its index there. `None` where L2 lacks the
-    /// line.
+    /// level 2 the line enters L1, in place of the line at its index there. `None` where L2 lacks
+    /// the line.
     pub fn read(&mut self, line: LineId) -> Option<(Line, u32)>
         ensures answer { result ≡ read_of self.old line.0 }
         ensures after { self.new ≡ after_read self.old line.0 }
@@ -76,8 +76,8 @@ impl Levels {
         put(&mut self.l1, &mut self.l2, line, copy);
     }
 
-    /// Keeps a copy of a line in L2, in place of the one that it had. No other line may stand at its
-    /// index in L2: `victim` says whether one does. L1 has the lines that it had.
+    /// Keeps a copy of a line in L2, in place of the one that it had. No other line may stand at
+    /// its index in L2: `victim` says whether one does. L1 has the lines that it had.
     pub fn install(&mut self, line: LineId, copy: Line)
         requires { HasRoom self.old.l2 line.0 }
         ensures { self.new ≡ with_level_copy self.old line.0 copy }
@@ -95,7 +95,8 @@ impl Levels {
 
     /// The other line that stands at this line's index in L2. `None` where there is none.
     pub fn victim(&self, line: LineId) -> Option<LineId>
-        ensures other { MatchOption result (HasRoom self.now.l2 line.0) (λ other. IsOther self.now.l2 line.0 other.0) }
+        ensures other { MatchOption result (HasRoom self.now.l2 line.0)
+            (λ other. IsOther self.now.l2 line.0 other.0) }
         ensures one_per_index { IsOnePerIndex self.now.l2 }
     {
         self.l2.victim(line)

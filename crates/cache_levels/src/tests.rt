@@ -1,4 +1,5 @@
-//! A worked example, and random calls against a plain program: two tables with a place for each line.
+//! A worked example, and random calls against a plain program: two tables with a place for each
+//! line.
 
 use crate::Levels;
 use dash_base::{Line, LineId};
@@ -84,6 +85,34 @@ fn an_l1_of_one_line_keeps_the_line_read_last(rt: HostRuntime) -> Result<(), Fai
     Ok(())
 }
 
+/// One random call, made to the levels and to the tables where its conditions hold.
+fn call(levels: &mut Levels, plain: &mut Plain, state: &mut u64, line: u32) {
+    let copy = Line {
+        words: [random(state), line, 0, 7],
+        version: u64::from(random(state)),
+    };
+    match random(state) % 5 {
+        0 => {
+            levels.clear_line(LineId(line));
+            plain.clear(line);
+        }
+        1 | 2 if levels.peek(LineId(line)).is_some() => {
+            levels.write_owned(LineId(line), copy);
+            plain.write(line, copy);
+        }
+        _ => match levels.victim(LineId(line)) {
+            Some(other) => {
+                levels.clear_line(other);
+                plain.clear(other.0);
+            }
+            None => {
+                levels.install(LineId(line), copy);
+                plain.write(line, copy);
+            }
+        },
+    }
+}
+
 #[test]
 fn random_calls_meet_tables_by_line(rt: HostRuntime) -> Result<(), Fail> {
     for (seed, l1, l2) in [
@@ -101,12 +130,10 @@ fn random_calls_meet_tables_by_line(rt: HostRuntime) -> Result<(), Fail> {
             copies: [None; 48],
             near: [false; 48],
         };
-        for step in 0..600_u64 {
+        for step in 0..600_u32 {
             let line = random(&mut state) % 48;
-            let copy = Line {
-                words: [random(&mut state), line, 0, 7],
-                version: step,
-            };
+            call(&mut levels, &mut plain, &mut state, line);
+            let line = random(&mut state) % 48;
             assert_eq!(rt;
                 levels.peek(LineId(line)),
                 plain.peek(line),
@@ -117,33 +144,11 @@ fn random_calls_meet_tables_by_line(rt: HostRuntime) -> Result<(), Fail> {
                 plain.victim(line),
                 "seed {seed}, step {step}"
             );
-            match random(&mut state) % 6 {
-                0 => {
-                    levels.clear_line(LineId(line));
-                    plain.clear(line);
-                }
-                1 if levels.peek(LineId(line)).is_some() => {
-                    levels.write_owned(LineId(line), copy);
-                    plain.write(line, copy);
-                }
-                2 | 3 => match levels.victim(LineId(line)) {
-                    Some(other) => {
-                        levels.clear_line(other);
-                        plain.clear(other.0);
-                    }
-                    None => {
-                        levels.install(LineId(line), copy);
-                        plain.write(line, copy);
-                    }
-                },
-                _ => {
-                    assert_eq!(rt;
-                        levels.read(LineId(line)),
-                        plain.read(line),
-                        "seed {seed}, step {step}"
-                    );
-                }
-            }
+            assert_eq!(rt;
+                levels.read(LineId(line)),
+                plain.read(line),
+                "seed {seed}, step {step}"
+            );
         }
     }
     Ok(())

@@ -10,8 +10,9 @@ use dash_base::{Line, LineId, OutOfMemory, Topology};
 use std::alloc::Global;
 use std::marker::Model;
 
-/// The caches of a cluster's harts. Contracts see one map from lines to their holders, as bits by local
-/// hart, their owner, a local hart, and their copy; and for each hart the set of lines in its L1.
+/// The caches of a cluster's harts. Contracts see one map from lines to their holders, as bits by
+/// local hart, their owner, a local hart, and their copy; and for each hart the set of lines in its
+/// L1.
 ///
 /// Each hart of a call is a local one.
 #[derive(Drop)]
@@ -36,7 +37,8 @@ impl Model for Bus {
 impl Bus {
     /// Empty caches for each hart of a cluster.
     pub fn new(alloc: Global, topology: &Topology) -> Result<Bus, OutOfMemory>
-        ensures { IfOk result (λ bus. bus ≡ empty_bus topology.now.harts topology.now.l1 topology.now.l2) }
+        ensures { IfOk result (λ bus.
+            bus ≡ empty_bus topology.now.harts topology.now.l1 topology.now.l2) }
     {
         Ok(Bus {
             harts: harts::empty(alloc, topology.harts, topology.l1, topology.l2)?,
@@ -83,14 +85,15 @@ impl Bus {
     /// The other line that the hart holds with the index of this one. `None` where there is none.
     pub fn victim(&self, hart: u32, line: LineId) -> Option<LineId>
         requires { hart < harts self.now }
-        ensures { MatchOption result (HasHartRoom self.now hart line.0) (λ other. IsHartOther self.now hart line.0 other.0) }
+        ensures { MatchOption result (HasHartRoom self.now hart line.0)
+            (λ other. IsHartOther self.now hart line.0 other.0) }
     {
         self.harts[hart as usize].victim(line)
     }
 
-    /// The copy of a line and the level that the hart reads it at: 1 where its L1 has the line, and else
-    /// 2. At level 2 the line enters the hart's L1, in place of the line at its index there. `None` where
-    /// the hart does not hold the line.
+    /// The copy of a line and the level that the hart reads it at: 1 where its L1 has the line, and
+    /// else 2. At level 2 the line enters the hart's L1, in place of the line at its index there.
+    /// `None` where the hart does not hold the line.
     pub fn read(&mut self, hart: u32, line: LineId) -> Option<(Line, u32)>
         requires { hart < harts self.old }
         ensures answer { result ≡ hart_read_of self.old hart line.0 }
@@ -111,8 +114,8 @@ impl Bus {
         harts::join(&mut self.harts, hart as usize, line);
     }
 
-    /// The hart becomes the only holder of a line, and its owner. There is an owner in the cluster, as
-    /// `owner` says, and the hart has `room`.
+    /// The hart becomes the only holder of a line, and its owner. There is an owner in the cluster,
+    /// as `owner` says, and the hart has `room`.
     pub fn bus_own(&mut self, hart: u32, line: LineId)
         requires hart_in_range { hart < harts self.old }
         requires owned { owner_at self.old line.0 ≢ None }
@@ -134,8 +137,8 @@ impl Bus {
         caches.write(line, copy);
     }
 
-    /// The hart becomes the only holder of a copy that came, as its owner or not. It has `room`. The line
-    /// leaves the L1 of every other hart, and enters none.
+    /// The hart becomes the only holder of a copy that came, as its owner or not. It has `room`.
+    /// The line leaves the L1 of every other hart, and enters none.
     pub fn install(&mut self, hart: u32, line: LineId, copy: Line, own: bool)
         requires hart_in_range { hart < harts self.old }
         requires room { HasHartRoom self.old hart line.0 }
@@ -144,8 +147,8 @@ impl Bus {
         harts::take(&mut self.harts, hart as usize, line, copy, own);
     }
 
-    /// The hart no longer holds a line. Where it was the owner there is none, and where it was the last
-    /// holder the copy is gone.
+    /// The hart no longer holds a line. Where it was the owner there is none, and where it was the
+    /// last holder the copy is gone.
     pub fn drop_one(&mut self, hart: u32, line: LineId)
         requires { hart < harts self.old }
         ensures { self.new ≡ after_drop self.old hart line.0 }

@@ -9,8 +9,8 @@ use dash_base::{Line, LineId, OutOfMemory};
 use std::alloc::Global;
 use std::marker::Model;
 
-/// One hart's two cache levels, with a mark at each index of L2: whether the hart owns the line that
-/// stands there. Contracts see the levels, and the set of the lines that the hart owns.
+/// One hart's two cache levels, with a mark at each index of L2: whether the hart owns the line
+/// that stands there. Contracts see the levels, and the set of the lines that the hart owns.
 #[derive(Drop)]
 pub struct HartCaches {
     levels: Levels,
@@ -68,7 +68,8 @@ impl HartCaches {
 
     /// The other line that stands at this line's index in L2. `None` where there is none.
     pub fn victim(&self, line: LineId) -> Option<LineId>
-        ensures other { MatchOption result (HasRoom self.now.levels.l2 line.0) (λ other. IsOther self.now.levels.l2 line.0 other.0) }
+        ensures other { MatchOption result (HasRoom self.now.levels.l2 line.0)
+            (λ other. IsOther self.now.levels.l2 line.0 other.0) }
     {
         self.levels.victim(line)
     }

@@ -97,7 +97,8 @@ pub fn leave(harts: &mut [HartCaches], hart: usize, line: LineId)
 
 /// Clears a line from all harts but one.
 fn clear_others(harts: &mut [HartCaches], hart: usize, line: LineId)
-    ensures { EachBecomes (λ k h. if k == hart then h else caches_without h line.0) harts.old harts.new }
+    ensures { EachBecomes (λ k h. if k == hart then h else caches_without h line.0)
+        harts.old harts.new }
 {
     for (other, caches) in harts.iter_mut().enumerate() {
         if other != hart {

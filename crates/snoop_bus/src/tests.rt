@@ -1,8 +1,9 @@
-//! A worked example, the largest caches, and random calls against a plain program: tables with a place
-//! for each line.
+//! A worked example, the largest caches, and random calls against a plain program: tables with a
+//! place for each line.
 
 use crate::Bus;
 use dash_base::{Line, LineId, Topology};
+use std::process::Abort;
 use std::test::Fail;
 
 const ZEROS: Line = Line {
@@ -211,48 +212,28 @@ fn commit(bus: &mut Bus, plain: &mut Plain, hart: u32, line: u32, copy: Line) {
     }
 }
 
+/// Whether the bus answers as the tables do, for one hart and one line.
+fn answers_alike(bus: &mut Bus, plain: &mut Plain, hart: u32, line: u32) -> bool {
+    let place = line as usize;
+    let is_one_map = bus.holders(LineId(line)) == plain.holders[place % 512]
+        && bus.owner(LineId(line)) == plain.owners[place % 512]
+        && bus.peek(LineId(line)) == plain.peek(place);
+    is_one_map
+        && hart < bus.harts()
+        && bus.victim(hart, LineId(line)) == plain.victim(hart, place)
+        && bus.read(hart, LineId(line)) == plain.read(hart, place)
+}
+
 /// Random calls of as many harts as the topology has, on lines that are `stride` apart.
-fn meets(
-    rt: &impl std::process::Abort,
-    bus: &mut Bus,
-    topology: &Topology,
-    stride: u32,
-    seed: u64,
-) {
+fn meets(rt: &impl Abort, bus: &mut Bus, topology: &Topology, stride: u32, seed: u64) {
     let mut state = seed;
     let mut plain = Plain::new(topology);
     for step in 0..700_u32 {
         let hart = random(&mut state) % topology.harts;
         let line = random(&mut state) % 48 * (stride % 10);
-        let place = line as usize;
         call(bus, &mut plain, &mut state, hart, line);
-        assert_eq!(rt;
-            bus.holders(LineId(line)),
-            plain.holders[place % 512],
-            "seed {seed}, step {step}"
-        );
-        assert_eq!(rt;
-            bus.owner(LineId(line)),
-            plain.owners[place % 512],
-            "seed {seed}, step {step}"
-        );
-        assert_eq!(rt;
-            bus.peek(LineId(line)),
-            plain.peek(place),
-            "seed {seed}, step {step}"
-        );
-        if hart < bus.harts() {
-            assert_eq!(rt;
-                bus.victim(hart, LineId(line)),
-                plain.victim(hart, place),
-                "seed {seed}, step {step}"
-            );
-            assert_eq!(rt;
-                bus.read(hart, LineId(line)),
-                plain.read(hart, place),
-                "seed {seed}, step {step}"
-            );
-        }
+        let alike = answers_alike(bus, &mut plain, hart, line);
+        assert!(rt; alike, "seed {seed}, step {step}, hart {hart}, line {line}");
     }
 }
 
