@@ -1,0 +1,13 @@
+//! What happens in the machine, as records: accesses, steps of the sequential machine, and events.
+//!
+//! A record says what was done, with all that its line in a report or a log prints. It knows nothing
+//! of how a hart, a cache or a cluster came to do it, nor of the text.
+#![tactic(auto)]
+
+pub use access::{Access, Op, Seen};
+pub use event::{Event, Kind};
+pub use step_record::StepRecord;
+
+mod access;
+mod event;
+mod step_record;
