@@ -1,28 +1,41 @@
 #!/usr/bin/env python3
-"""An interpreter of its own for what `dash run IMAGE` serves, to compare the program with.
+"""An interpreter of its own for what `dash run` serves, to compare the program with.
 
-    python3 tests/reference.py IMAGE
+    python3 tests/reference.py IMAGE [CLUSTERS HARTS BUDGET]
 
 prints the report of IMAGE and ends with its exit status. It is written from the RISC-V unprivileged
-manual (chapter "RV32I Base Integer Instruction Set") and from docs/instructions.md and docs/formats.md.
-It shares no code with the program, takes one slow step for each instruction, and is not proved.
+manual (chapters "RV32I Base Integer Instruction Set", "A" and "Zicbop") and from docs/instructions.md and
+docs/formats.md. It shares no code with the program, takes one slow step for each instruction, and is not
+proved.
 """
 
 import os
+import re
 import struct
 import sys
 
 BASE = 0
 MEMORY = 1024 * 1024
 LOCK_WORDS = 64
+LOCKS_AT = BASE + MEMORY
 BUDGET = 1_000_000
 FILE_LIMIT = 33_554_432
 MASK = 0xFFFFFFFF
+ALL_BYTES = 0xF
+
+MOST_CLUSTERS = 16
+MOST_HARTS = 4
+MOST_BUDGET = 2_147_483_647
+MOST_INSTRUCTIONS = 2_000_000
 
 PF_X, PF_W = 1, 2
 
 # The statuses that the program can end with.
-EXITED, REFUSED, FAULT, SPENT, TRAPPED = 0, 3, 5, 10, 11
+EXITED, USAGE, REFUSED, MISSHAPEN, FAULT, SPENT, TRAPPED, WAITING = 0, 2, 3, 4, 5, 10, 11, 12
+
+USAGE_LINE = (
+    b"dash: usage: dash run IMAGE [TOPOLOGY [--log] | CLUSTERS HARTS BUDGET [--log]] | dash gen SEED\n"
+)
 
 
 class Refusal(Exception):
@@ -32,15 +45,18 @@ class Refusal(Exception):
 class Stop(Exception):
     """The end of the hart: an exit, or a trap with its cause and value."""
 
-    def __init__(self, text, status, retires):
+    def __init__(self, text, is_trap):
         super().__init__(text)
         self.text = text
-        self.status = status
-        self.retires = retires
+        self.is_trap = is_trap
+
+
+class Wait(Exception):
+    """The hart asks for a lock word that is not 0."""
 
 
 def trap(cause, value):
-    return Stop(f"trap {cause} {value & MASK:08x}", TRAPPED, False)
+    return Stop(f"trap {cause} {value & MASK:08x}", True)
 
 
 class Image:
@@ -160,34 +176,191 @@ LOADS = {0b000: (1, True), 0b001: (2, True), 0b010: (4, False), 0b100: (1, False
 STORES = {0b000: 1, 0b001: 2, 0b010: 4}
 
 
-class Hart:
-    """One hart and its memory."""
+# By funct5: what the operation makes of the word and the operand.
+ATOMICS = {
+    0b00001: lambda a, b: b,
+    0b00000: lambda a, b: a + b,
+    0b00100: lambda a, b: a ^ b,
+    0b01100: lambda a, b: a & b,
+    0b01000: lambda a, b: a | b,
+    0b10000: lambda a, b: min(a, b, key=signed),
+    0b10100: lambda a, b: max(a, b, key=signed),
+    0b11000: min,
+    0b11100: max,
+}
+SWAP, LR, SC = 0b00001, 0b00010, 0b00011
 
-    def __init__(self, image):
+LABELS = {(0, 0): "-", (1, 0): "a", (0, 1): "r", (1, 1): "ar"}
+
+
+class Machine:
+    """Memory, lock words and console, the harts that share them, and the accesses so far."""
+
+    def __init__(self, image, clusters=1, harts=1, budget=BUDGET):
         self.image = image
+        self.budget = budget
         self.memory = bytearray(MEMORY)
         self.memory[image.first - BASE : image.end - BASE] = image.bytes
-        self.pc = image.entry
-        self.registers = [0] * 32
-        self.registers[2] = BASE + MEMORY
-        self.registers[11] = 1
-        self.retired = 0
+        self.locks = [0] * LOCK_WORDS
         self.console = bytearray()
+        self.accesses = []
+        count = clusters * harts
+        stack = MEMORY // (4 * count) // 16 * 16
+        self.harts = [Hart(self, number, count, stack) for number in range(count)]
+
+    def run(self):
+        """Takes the harts in rotation, an instruction a turn, until a whole round passes all over."""
+        goes = True
+        while goes:
+            goes = False
+            for hart in self.harts:
+                if hart.end is None and hart.retired < self.budget:
+                    goes |= hart.turn()
+
+    def status(self):
+        if any(hart.is_trapped for hart in self.harts):
+            return TRAPPED
+        left = [hart for hart in self.harts if hart.end is None]
+        if any(hart.retired >= self.budget for hart in left):
+            return SPENT
+        return WAITING if left else EXITED
+
+    def report(self):
+        """The whole of standard output."""
+        lines = []
+        for hart in self.harts:
+            lines.append(f"hart {hart.number} {hart.end_text()} pc {hart.pc:08x} retired {hart.retired}")
+            for first in (0, 8, 16, 24):
+                words = " ".join(f"{value:08x}" for value in hart.registers[first : first + 8])
+                lines.append(f"x{first} {words}")
+        lines.append(f"status {self.status()}")
+        lines.append(f"accesses {len(self.accesses)}")
+        lines += self.accesses
+        sections = "".join(line + "\n" for line in lines)
+        return b"console %d\n" % len(self.console) + bytes(self.console) + b"\n" + sections.encode()
+
+
+class Hart:
+    """One hart of a machine."""
+
+    def __init__(self, machine, number, count, stack):
+        self.machine = machine
+        self.number = number
+        self.pc = machine.image.entry
+        self.registers = [0] * 32
+        self.registers[2] = BASE + MEMORY - number * stack
+        self.registers[10] = number
+        self.registers[11] = count
+        self.retired = 0
+        self.end = None
+        self.is_trapped = False
+        self.reserved = None
+
+    def end_text(self):
+        if self.end is not None:
+            return self.end
+        return "waits" if self.retired < self.machine.budget else "budget"
+
+    def turn(self):
+        """One instruction, where the hart needn't wait; whether it did one."""
+        try:
+            self.step()
+        except Wait:
+            return False
+        except Stop as stop:
+            self.end = stop.text
+            self.is_trapped = stop.is_trap
+            self.retired += int(not stop.is_trap)
+        return True
 
     def check(self, address, size, is_store):
         """The traps of a data access, in their order."""
         if address % size != 0:
             raise trap("misaligned", address)
-        if BASE + MEMORY <= address < BASE + MEMORY + 4 * LOCK_WORDS:
+        if LOCKS_AT <= address < LOCKS_AT + 4 * LOCK_WORDS:
             raise trap("lockuse", address)
         if address < BASE or address + size > BASE + MEMORY:
             raise trap("unmapped", address)
-        if is_store and not self.image.is_writable(address, size):
+        if is_store and not self.machine.image.is_writable(address, size):
             raise trap("readonly", address)
 
+    def record(self, op, labels, address, size, read, written):
+        """Adds the line of an access. What is read and written stands in its place in the word, beside zeros."""
+        place = address % 4
+        mask = ((1 << size) - 1) << place
+        values = ("-" if value is None else f"{(value & MASK) << 8 * place:08x}" for value in (read, written))
+        self.machine.accesses.append(
+            f"{self.number} {self.retired + 1} {op} {labels} {address - place:08x} {mask:x} {' '.join(values)} -"
+        )
+
+    def bytes_at(self, address, size):
+        at = address - BASE
+        return int.from_bytes(self.machine.memory[at : at + size], "little")
+
+    def write(self, address, size, value):
+        """Writes bytes, and removes the reservations of their word that other harts have."""
+        at = address - BASE
+        self.machine.memory[at : at + size] = value.to_bytes(size, "little")
+        for hart in self.machine.harts:
+            if hart is not self and hart.reserved == address - address % 4:
+                hart.reserved = None
+
+    def load(self, address, size, is_signed):
+        self.check(address, size, False)
+        value = self.bytes_at(address, size)
+        self.record("load", "-", address, size, value, None)
+        return signed(value, 8 * size) if is_signed else value
+
+    def store(self, address, size, value):
+        self.check(address, size, True)
+        value &= (1 << 8 * size) - 1
+        self.record("store", "-", address, size, None, value)
+        self.write(address, size, value)
+
+    def lock_word(self, operation, aq, rl, address, operand):
+        """The two uses of a lock word: to ask for it, and to give it back."""
+        index = (address - LOCKS_AT) // 4
+        old = self.machine.locks[index]
+        if (operation, aq, rl) == (SWAP, 1, 0) and operand != 0:
+            if old != 0:
+                raise Wait
+            self.record("ask", "a", address, 4, 0, operand)
+            self.machine.locks[index] = operand
+        elif (operation, aq, rl) == (SWAP, 0, 1) and operand == 0:
+            self.record("unlock", "r", address, 4, old, 0)
+            self.machine.locks[index] = 0
+        else:
+            raise trap("lockuse", address)
+        return old
+
+    def atomic(self, operation, aq, rl, address, operand):
+        """LR, SC or another atomic operation; what it answers."""
+        labels = LABELS[aq, rl]
+        if operation == LR:
+            self.check(address, 4, False)
+            value = self.bytes_at(address, 4)
+            self.record("lr", labels, address, 4, value, None)
+            self.reserved = address
+            return value
+        if address % 4 == 0 and LOCKS_AT <= address < LOCKS_AT + 4 * LOCK_WORDS:
+            return self.lock_word(operation, aq, rl, address, operand)
+        self.check(address, 4, True)
+        if operation == SC:
+            succeeds = self.reserved == address
+            self.reserved = None
+            self.record("sc", labels, address, 4, None, operand if succeeds else None)
+            if succeeds:
+                self.write(address, 4, operand)
+            return int(not succeeds)
+        old = self.bytes_at(address, 4)
+        new = ATOMICS[operation](old, operand) & MASK
+        self.record("amo", labels, address, 4, old, new)
+        self.write(address, 4, new)
+        return old
+
     def step(self):
-        """One instruction. A trap or an exit is raised before anything changed."""
-        word = self.image.fetch(self.pc)
+        """One instruction. A trap, an exit or a wait is raised before anything changed."""
+        word = self.machine.image.fetch(self.pc)
         if word is None:
             raise trap("fetch", self.pc)
         opcode, rd, funct3 = field(word, 6, 0), field(word, 11, 7), field(word, 14, 12)
@@ -216,19 +389,12 @@ class Hart:
             if funct3 not in LOADS:
                 raise illegal
             size, is_signed = LOADS[funct3]
-            address = (a + i_immediate(word)) & MASK
-            self.check(address, size, False)
-            at = address - BASE
-            result = int.from_bytes(self.memory[at : at + size], "little", signed=is_signed)
+            result = self.load((a + i_immediate(word)) & MASK, size, is_signed)
         elif opcode == 0b0100011:  # SB to SW
             if funct3 not in STORES:
                 raise illegal
-            size = STORES[funct3]
-            address = (a + s_immediate(word)) & MASK
-            self.check(address, size, True)
-            at = address - BASE
-            self.memory[at : at + size] = (b & ((1 << 8 * size) - 1)).to_bytes(size, "little")
-        elif opcode == 0b0010011:  # ADDI to SRAI
+            self.store((a + s_immediate(word)) & MASK, STORES[funct3], b)
+        elif opcode == 0b0010011:  # ADDI to SRAI; the prefetches are ORI with rd 0, and change nothing either
             if funct3 in (0b001, 0b101):
                 row, operand = (funct3, funct7), rs2
             else:
@@ -240,6 +406,15 @@ class Hart:
             if (funct3, funct7) not in ARITHMETIC:
                 raise illegal
             result = ARITHMETIC[funct3, funct7](a, b)
+        elif opcode == 0b0101111:  # LR to AMOMAXU
+            operation = field(word, 31, 27)
+            is_row = operation in ATOMICS or operation == SC or operation == LR and rs2 == 0
+            if funct3 != 0b010 or not is_row:
+                raise illegal
+            result = self.atomic(operation, field(word, 26, 26), field(word, 25, 25), a, b)
+        elif opcode == 0b0001111:  # FENCE: accesses are performed at once, so there is nothing to wait for
+            if funct3 != 0:
+                raise illegal
         elif word == 0x00000073:  # ECALL
             self.call()
         elif word == 0x00100073:  # EBREAK
@@ -258,60 +433,73 @@ class Hart:
     def call(self):
         number, value = self.registers[17], self.registers[10]
         if number == 93:
-            raise Stop(f"exit {value:08x}", EXITED, True)
+            raise Stop(f"exit {value:08x}", False)
         if number != 1:
             raise trap("badcall", number)
-        self.console.append(value & 0xFF)
-
-    def run(self, budget=BUDGET):
-        """Runs until the hart ends or spent its budget; the end's text and the status."""
-        try:
-            while self.retired < budget:
-                self.step()
-        except Stop as stop:
-            self.retired += int(stop.retires)
-            return stop.text, stop.status
-        return "budget", SPENT
+        self.machine.console.append(value & 0xFF)
 
 
-def report(hart, end, status):
-    """The whole of standard output."""
-    lines = [f"hart 0 {end} pc {hart.pc:08x} retired {hart.retired}"]
-    for first in (0, 8, 16, 24):
-        words = " ".join(f"{value:08x}" for value in hart.registers[first : first + 8])
-        lines.append(f"x{first} {words}")
-    lines.append(f"status {status}")
-    harts = "".join(line + "\n" for line in lines)
-    console = bytes(hart.console)
-    return b"console %d\n" % len(console) + console + b"\n" + harts.encode()
+def topology_refusal(clusters, harts, budget):
+    """Why a topology is not accepted, or None."""
+    if not 1 <= clusters <= MOST_CLUSTERS:
+        return "range clusters"
+    if not 1 <= harts <= MOST_HARTS:
+        return "range harts"
+    if not 1 <= budget <= MOST_BUDGET:
+        return "range budget"
+    if clusters * harts * budget > MOST_INSTRUCTIONS:
+        return "too much"
+    return None
 
 
-def run_bytes(data):
+def run_bytes(data, clusters=1, harts=1, budget=BUDGET):
     """What the program prints on standard output and on standard error for these bytes, and its status."""
+    refusal = topology_refusal(clusters, harts, budget)
+    if refusal is not None:
+        return b"", f"dash: topology: {refusal}\n".encode(), MISSHAPEN
     try:
         image = Image(data)
     except Refusal as refusal:
         return b"", f"dash: image: {refusal}\n".encode(), REFUSED
-    hart = Hart(image)
-    end, status = hart.run()
-    return report(hart, end, status), b"", status
+    machine = Machine(image, clusters, harts, budget)
+    machine.run()
+    return machine.report(), b"", machine.status()
 
 
-def main():
-    if len(sys.argv) != 2:
-        sys.exit("usage: reference.py IMAGE")
-    name = os.fsencode(sys.argv[1])
+def number_of(word):
+    """The number that a word spells, or None: ten digits at most, no needless zero, 32 bits."""
+    if not re.fullmatch(b"0|[1-9][0-9]{0,9}", word):
+        return None
+    number = int(word)
+    return number if number <= MASK else None
+
+
+def run_words(words):
+    """The same for the words of a command line without the program's own name."""
+    usage = b"", USAGE_LINE, USAGE
+    if len(words) not in (2, 5) or words[0] != b"run" or words[1] == b"" or words[1].startswith(b"-"):
+        return usage
+    try:
+        b" ".join(words).decode("utf-8")
+    except UnicodeDecodeError:
+        return usage
+    numbers = [number_of(word) for word in words[2:]]
+    if None in numbers:
+        return usage
+    name = words[1]
     try:
         with open(name, "rb") as file:
             data = file.read(FILE_LIMIT + 1)
             size = os.fstat(file.fileno()).st_size
     except OSError:
-        sys.stderr.buffer.write(b"dash: " + name + b": read failed\n")
-        sys.exit(FAULT)
+        return b"", b"dash: " + name + b": read failed\n", FAULT
     if len(data) > FILE_LIMIT:
-        sys.stderr.buffer.write(b"dash: " + name + b": %d bytes, limit %d\n" % (size, FILE_LIMIT))
-        sys.exit(FAULT)
-    out, err, status = run_bytes(data)
+        return b"", b"dash: " + name + b": %d bytes, limit %d\n" % (size, FILE_LIMIT), FAULT
+    return run_bytes(data, *numbers)
+
+
+def main():
+    out, err, status = run_words([b"run"] + [os.fsencode(word) for word in sys.argv[1:]])
     sys.stdout.buffer.write(out)
     sys.stderr.buffer.write(err)
     sys.stdout.flush()

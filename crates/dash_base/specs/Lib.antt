@@ -1,4 +1,5 @@
 pub mod Ranges
+pub mod Operations
 pub mod Words
 pub mod Segment
 pub mod Bounds

@@ -1,5 +1,6 @@
 -- What is owed for a file, from what the loader and the run say of it.
-use Rattle.std.proofs.Common.{◌≡◌, ℕ, List, Some, None, refl, subst}
+use Rattle.std.proofs.Common.{◌≡◌, ℕ, inr, List, Option, Some, None, refl, subst}
+use Rattle.dash_base.specs.Topology.{IsSimple, simple_refusal}
 use Rattle.dash_base.specs.declared.topology.Topology.{Topology}
 use Rattle.elf_load.specs.Image.{ImageView}
 use Rattle.elf_load.specs.Loader.{refusal_of, image_of, Refuses}
@@ -8,29 +9,50 @@ use Rattle.elf_load.specs.declared.refusal.LoadRefusal.{LoadRefusal}
 use Rattle.elf_load.specs.declared.refusal.LoadRefusal.TheVariants as load_refusal
 use Rattle.dash_run.specs.declared.owed.Owed.{Owed}
 use Rattle.dash_run.specs.declared.owed.Owed.TheVariants.{Usage, Line, Report}
-use Rattle.dash_run.specs.Flat.{IsWholeRun}
-use Rattle.dash_run.specs.Outcome.{IsMachine}
-use Rattle.dash_run.specs.Owed.{IsAnswer, IsReport}
+use Rattle.dash_run.specs.CommandLine.{Request}
+use Rattle.dash_run.specs.Owed.{IsAnswer, IsAnswerOn, IsReport}
 
-pub report_answers : (bytes : List ℕ) (image : ImageView) (t : Topology) (m : MemoryMap) (owed : Owed)
-    → IsMachine t m → refusal_of bytes m ≡ None → image ≡ image_of bytes → IsReport image t owed → IsAnswer bytes owed
-report_answers bytes image t m Usage is_machine accepted same report = report
-report_answers bytes image t m (Line status text) is_machine accepted same report = absurd report
-report_answers bytes image t m (Report status console harts) is_machine accepted same report = record {
-  machine = t;
+pub report_on : (bytes : List ℕ) (image : ImageView) (t : Topology) (m : MemoryMap) (owed : Owed)
+    → m.base ≡ t.base → m.size ≡ t.memory → refusal_of bytes m ≡ None → image ≡ image_of bytes → IsReport image t owed → IsAnswerOn t bytes owed
+report_on bytes image t m Usage base size accepted same report = report
+report_on bytes image t m (Line status text) base size accepted same report = absurd report
+report_on bytes image t m (Report status console harts accesses log) base size accepted same report = record {
   map = m;
-  is_machine = is_machine;
+  base = base;
+  size = size;
   accepted = accepted;
-  records = report.records;
-  state = report.state;
-  run = let for_image : ImageView → Type 0 = λ i. IsWholeRun i t report.records report.state in subst for_image same report.run;
-  is_status = report.is_status;
-  is_text = report.is_text;
+  report = let for_image : ImageView → Type 0 = λ i. IsReport i t (Report status console harts accesses log) in subst for_image same report;
 }
 
 -- a refusal for another cause than memory is the one that applies
-pub refusal_applies : (first : _) (refusal : LoadRefusal) → (refusal ≡ load_refusal.OutOfMemory → ⊥) → Refuses first refusal → first ≡ Some refusal
+pub refusal_applies : (first : Option LoadRefusal) (refusal : LoadRefusal) → (refusal ≡ load_refusal.OutOfMemory → ⊥) → Refuses first refusal → first ≡ Some refusal
 refusal_applies first (load_refusal.Short at) other refuses = refuses
 refusal_applies first load_refusal.NotElf other refuses = refuses
 refusal_applies first load_refusal.Unsupported other refuses = refuses
 refusal_applies first load_refusal.OutOfMemory other refuses = absurd (other refl)
+
+-- what is owed on a topology that was asked for is what is owed
+pub answer_on_asked : (q : Request) (t : Topology) (bytes : List ℕ) (owed : Owed)
+    → IsSimple q.clusters q.harts q.budget t → simple_refusal q.clusters q.harts q.budget ≡ None → IsAnswerOn t bytes owed → IsAnswer q bytes owed
+answer_on_asked q t bytes Usage simple accepted answer = answer
+answer_on_asked q t bytes (Line status text) simple accepted answer = inr (record {
+  refusal = answer.refusal;
+  refused = record {
+    machine = t;
+    map = answer.map;
+    is_machine = record { simple = simple; accepted = accepted; base = answer.base; size = answer.size };
+    refused = answer.refused;
+  };
+  status_is = answer.status_is;
+  text_is = answer.text_is;
+})
+answer_on_asked q t bytes (Report status console harts accesses log) simple accepted answer = record {
+  machine = t;
+  map = answer.map;
+  is_machine = record { simple = simple; accepted = accepted; base = answer.base; size = answer.size };
+  accepted = answer.accepted;
+  state = (answer.report).state;
+  run = (answer.report).run;
+  is_status = (answer.report).is_status;
+  is_text = (answer.report).is_text;
+}

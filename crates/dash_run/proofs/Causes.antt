@@ -1,108 +1,148 @@
--- The cause of each status, and the status of each cause, from how a call may end.
-use Rattle.std.proofs.Common.{◌≡◌, ℕ, ◌⊎◌, inl, inr, List, Option, None, refl, sym, ◌∙◌, subst, arith}
+-- The cause of each status, from how a call may end.
+use Rattle.std.proofs.Common.{◌≡◌, ℕ, ◌⊎◌, inl, inr, List, Option, Bool, true, false, if◌then◌else◌, refl, sym, ◌∙◌, subst, arith}
 use Rattle.dash_base.specs.Outside.{Files, Printed}
 use Rattle.dash_base.specs.declared.host.Stream.{Stream}
-use Rattle.dash_base.specs.declared.end.End.{End}
-use Rattle.dash_base.specs.declared.end.End.TheVariants.{Running, Exited, Trapped}
-use Rattle.dash_run.specs.CommandLine.{image_name}
+use Rattle.dash_base.specs.declared.topology.Topology.{Topology}
+use Rattle.dash_event.specs.declared.event.Event.{Event}
+use Rattle.hart_core.specs.HartState.{HartState}
+use Rattle.flat_model.specs.Held.{harts_of}
+use Rattle.dash_run.specs.CommandLine.{Request, IsFormless}
 use Rattle.dash_run.specs.Report.{status_of}
-use Rattle.dash_run.specs.Outcome.{Owes, usage, failed, large, refused, reported, Ends, printed_all, print_failed, out_of_memory, Change, IsReported, IsRunStatus, IsFault, NamesRefused, NamesRun}
+use Rattle.dash_run.specs.Outcome.{Owes, usage, failed, large, misshapen, refused, reported, Ends, printed_all, print_failed, out_of_memory, Change, IsReported, IsRunStatus, IsFault, NamesMisshapen, NamesRefused, NamesRun, RunsSequentially}
+use Rattle.dash_run.proofs.Runs.{plain_complete}
 
 -- ---- the statuses of a run
 
-pub run_status : (e : End) → IsRunStatus (status_of e)
-run_status (Exited code) = inl refl
-run_status Running = inr (inl refl)
-run_status (Trapped cause value) = inr (inr refl)
+choice_status : (a b c : Bool) → IsRunStatus (if a then 11 else (if b then 10 else (if c then 12 else 0)))
+choice_status true b c = inr (inr (inl refl))
+choice_status false true c = inr (inl refl)
+choice_status false false true = inr (inr (inr refl))
+choice_status false false false = inl refl
 
-pub reported_status : (bytes : List ℕ) (status : ℕ) (text : List ℕ) → IsReported bytes status text → IsRunStatus status
-reported_status bytes status text report = subst IsRunStatus (sym report.is_status) (run_status report.state.hart.end)
+pub run_status : (t : Topology) (harts : List HartState) → IsRunStatus (status_of t harts)
+run_status t harts = choice_status _ _ _
+
+pub reported_status : (q : Request) (bytes : List ℕ) (status : ℕ) (text : List ℕ) (log : List Event) → IsReported q bytes status text log → IsRunStatus status
+reported_status q bytes status text log report = subst IsRunStatus (sym report.is_status) (run_status report.machine (harts_of report.machine report.state))
 
 -- no run ends with the status of something else
-pub other_status : (status other : ℕ) → IsRunStatus status → status ≡ other → (other ≡ 0 → ⊥) → (other ≡ 10 → ⊥) → (other ≡ 11 → ⊥) → ⊥
-other_status status other (inl zero) same not0 not10 not11 = not0 (sym same ∙ zero)
-other_status status other (inr (inl ten)) same not0 not10 not11 = not10 (sym same ∙ ten)
-other_status status other (inr (inr eleven)) same not0 not10 not11 = not11 (sym same ∙ eleven)
+pub other_status : (status other : ℕ) → IsRunStatus status → status ≡ other → (other ≡ 0 → ⊥) → (other ≡ 10 → ⊥) → (other ≡ 11 → ⊥) → (other ≡ 12 → ⊥) → ⊥
+other_status status other (inl zero) same not0 not10 not11 not12 = not0 (sym same ∙ zero)
+other_status status other (inr (inl ten)) same not0 not10 not11 not12 = not10 (sym same ∙ ten)
+other_status status other (inr (inr (inl eleven))) same not0 not10 not11 not12 = not11 (sym same ∙ eleven)
+other_status status other (inr (inr (inr twelve))) same not0 not10 not11 not12 = not12 (sym same ∙ twelve)
+
+pub no_run : (status : ℕ) → (status ≡ 2) ⊎ (status ≡ 3) ⊎ (status ≡ 4) ⊎ (status ≡ 5) ⊎ (status ≡ 6) → IsRunStatus status → ⊥
+no_run status other run = omega arith
 
 -- ---- what is owed with a status
 
-pub owes_two : (words : List (List ℕ)) (files : Option Files) (before after status : ℕ) (to : Stream) (text : List ℕ)
-    → Owes words files before after status to text → status ≡ 2 → image_name words ≡ None
-owes_two words files before after status to text (usage none same) two = none
-owes_two words files before after status to text (failed name named rose) two = absurd (omega arith)
-owes_two words files before after status to text (large name size is same) two = absurd (omega arith)
-owes_two words files before after status to text (refused bytes refusal given is same) two = absurd (omega arith)
-owes_two words files before after status to text (reported bytes s t given is same) two =
-    absurd (other_status s 2 (reported_status bytes s t is) two (λ e. omega arith) (λ e. omega arith) (λ e. omega arith))
+pub owes_two : (words : List (List ℕ)) (files : Option Files) (before after status : ℕ) (to : Stream) (text : List ℕ) (log : List Event)
+    → Owes words files before after status to text log → status ≡ 2 → IsFormless words
+owes_two words files before after status to text log (usage none same) eq = none
+owes_two words files before after status to text log (failed q asks rose) eq = absurd (omega arith)
+owes_two words files before after status to text log (large q size asks is same) eq = absurd (omega arith)
+owes_two words files before after status to text log (misshapen q bytes refusal asks given is same) eq = absurd (omega arith)
+owes_two words files before after status to text log (refused q bytes refusal asks given is same) eq = absurd (omega arith)
+owes_two words files before after status to text log (reported q bytes s t l asks given is same) eq = absurd (other_status s 2 (reported_status q bytes s t l is) eq (λ e. omega arith) (λ e. omega arith) (λ e. omega arith) (λ e. omega arith))
 
-pub owes_three : (words : List (List ℕ)) (files : Option Files) (before after status : ℕ) (to : Stream) (text : List ℕ)
-    → Owes words files before after status to text → status ≡ 3 → NamesRefused words files
-owes_three words files before after status to text (usage none same) three = absurd (omega arith)
-owes_three words files before after status to text (failed name named rose) three = absurd (omega arith)
-owes_three words files before after status to text (large name size is same) three = absurd (omega arith)
-owes_three words files before after status to text (refused bytes refusal given is same) three =
-    record { bytes = bytes; given = given; refusal = refusal; refused = is }
-owes_three words files before after status to text (reported bytes s t given is same) three =
-    absurd (other_status s 3 (reported_status bytes s t is) three (λ e. omega arith) (λ e. omega arith) (λ e. omega arith))
+pub owes_three : (words : List (List ℕ)) (files : Option Files) (before after status : ℕ) (to : Stream) (text : List ℕ) (log : List Event)
+    → Owes words files before after status to text log → status ≡ 3 → NamesRefused words files
+owes_three words files before after status to text log (usage none same) eq = absurd (omega arith)
+owes_three words files before after status to text log (failed q asks rose) eq = absurd (omega arith)
+owes_three words files before after status to text log (large q size asks is same) eq = absurd (omega arith)
+owes_three words files before after status to text log (misshapen q bytes refusal asks given is same) eq = absurd (omega arith)
+owes_three words files before after status to text log (refused q bytes refusal asks given is same) eq = record { request = q; asked = asks; bytes = bytes; given = given; refusal = refusal; refused = is }
+owes_three words files before after status to text log (reported q bytes s t l asks given is same) eq = absurd (other_status s 3 (reported_status q bytes s t l is) eq (λ e. omega arith) (λ e. omega arith) (λ e. omega arith) (λ e. omega arith))
 
-pub owes_five : (words : List (List ℕ)) (files : Option Files) (loads prints : Change ℕ) (status : ℕ) (to : Stream) (text : List ℕ)
-    → Owes words files loads.old loads.new status to text → status ≡ 5 → IsFault words files loads prints
-owes_five words files loads prints status to text (usage none same) five = absurd (omega arith)
-owes_five words files loads prints status to text (failed name named rose) five = inl rose
-owes_five words files loads prints status to text (large name size is same) five =
-    inr (inr (record { name = name; size = size; large = is }))
-owes_five words files loads prints status to text (refused bytes refusal given is same) five = absurd (omega arith)
-owes_five words files loads prints status to text (reported bytes s t given is same) five =
-    absurd (other_status s 5 (reported_status bytes s t is) five (λ e. omega arith) (λ e. omega arith) (λ e. omega arith))
+pub owes_four : (words : List (List ℕ)) (files : Option Files) (before after status : ℕ) (to : Stream) (text : List ℕ) (log : List Event)
+    → Owes words files before after status to text log → status ≡ 4 → NamesMisshapen words files
+owes_four words files before after status to text log (usage none same) eq = absurd (omega arith)
+owes_four words files before after status to text log (failed q asks rose) eq = absurd (omega arith)
+owes_four words files before after status to text log (large q size asks is same) eq = absurd (omega arith)
+owes_four words files before after status to text log (misshapen q bytes refusal asks given is same) eq = record { request = q; asked = asks; bytes = bytes; given = given; refusal = refusal; refused = is }
+owes_four words files before after status to text log (refused q bytes refusal asks given is same) eq = absurd (omega arith)
+owes_four words files before after status to text log (reported q bytes s t l asks given is same) eq = absurd (other_status s 4 (reported_status q bytes s t l is) eq (λ e. omega arith) (λ e. omega arith) (λ e. omega arith) (λ e. omega arith))
 
-pub no_run : (status : ℕ) → (status ≡ 2) ⊎ (status ≡ 3) ⊎ (status ≡ 5) ⊎ (status ≡ 6) → IsRunStatus status → ⊥
-no_run status other run = omega arith
+pub owes_five : (words : List (List ℕ)) (files : Option Files) (loads prints : Change ℕ) (status : ℕ) (to : Stream) (text : List ℕ) (log : List Event)
+    → Owes words files loads.old loads.new status to text log → status ≡ 5 → IsFault words files loads prints
+owes_five words files loads prints status to text log (usage none same) eq = absurd (omega arith)
+owes_five words files loads prints status to text log (failed q asks rose) eq = inl rose
+owes_five words files loads prints status to text log (large q size asks is same) eq = inr (inr (record { request = q; asked = asks; size = size; large = is }))
+owes_five words files loads prints status to text log (misshapen q bytes refusal asks given is same) eq = absurd (omega arith)
+owes_five words files loads prints status to text log (refused q bytes refusal asks given is same) eq = absurd (omega arith)
+owes_five words files loads prints status to text log (reported q bytes s t l asks given is same) eq = absurd (other_status s 5 (reported_status q bytes s t l is) eq (λ e. omega arith) (λ e. omega arith) (λ e. omega arith) (λ e. omega arith))
 
-pub owes_run : (words : List (List ℕ)) (files : Option Files) (before after status : ℕ) (to : Stream) (text : List ℕ)
-    → Owes words files before after status to text → IsRunStatus status → NamesRun words files status
-owes_run words files before after status to text (usage none same) run = absurd (no_run _ (inl refl) run)
-owes_run words files before after status to text (failed name named rose) run = absurd (no_run _ (inr (inr (inl refl))) run)
-owes_run words files before after status to text (large name size is same) run = absurd (no_run _ (inr (inr (inl refl))) run)
-owes_run words files before after status to text (refused bytes refusal given is same) run = absurd (no_run _ (inr (inl refl)) run)
-owes_run words files before after status to text (reported bytes s t given is same) run =
-    record { bytes = bytes; given = given; text = t; reported = is }
+pub owes_six : (words : List (List ℕ)) (files : Option Files) (before after status : ℕ) (to : Stream) (text : List ℕ) (log : List Event)
+    → Owes words files before after status to text log → status ≡ 6 → ⊥
+owes_six words files before after status to text log (usage none same) eq = omega arith
+owes_six words files before after status to text log (failed q asks rose) eq = omega arith
+owes_six words files before after status to text log (large q size asks is same) eq = omega arith
+owes_six words files before after status to text log (misshapen q bytes refusal asks given is same) eq = omega arith
+owes_six words files before after status to text log (refused q bytes refusal asks given is same) eq = omega arith
+owes_six words files before after status to text log (reported q bytes s t l asks given is same) eq = (other_status s 6 (reported_status q bytes s t l is) eq (λ e. omega arith) (λ e. omega arith) (λ e. omega arith) (λ e. omega arith))
+
+pub owes_run : (words : List (List ℕ)) (files : Option Files) (before after status : ℕ) (to : Stream) (text : List ℕ) (log : List Event)
+    → Owes words files before after status to text log → IsRunStatus status → NamesRun words files status log
+owes_run words files before after status to text log (usage none same) run = absurd (no_run _ (inl refl) run)
+owes_run words files before after status to text log (failed q asks rose) run = absurd (no_run _ (inr (inr (inr (inl refl)))) run)
+owes_run words files before after status to text log (large q size asks is same) run = absurd (no_run _ (inr (inr (inr (inl refl)))) run)
+owes_run words files before after status to text log (misshapen q bytes refusal asks given is same) run = absurd (no_run _ (inr (inr (inl refl))) run)
+owes_run words files before after status to text log (refused q bytes refusal asks given is same) run = absurd (no_run _ (inr (inl refl)) run)
+owes_run words files before after status to text log (reported q bytes s t l asks given is same) run = record { request = q; asked = asks; bytes = bytes; given = given; text = t; reported = is }
 
 -- ---- the cause of each status
 
-pub usage_cause : (words : List (List ℕ)) (files : Option Files) (loads prints : Change ℕ) (printed : Change (Option Printed)) (status : ℕ)
-    → Ends words files loads prints printed status → status ≡ 2 → image_name words ≡ None
-usage_cause words files loads prints printed status (printed_all s to text owes steady follows) two = owes_two _ _ _ _ _ _ _ owes two
-usage_cause words files loads prints printed status (print_failed s to text owes rose follows) two = absurd (omega arith)
-usage_cause words files loads prints printed status (out_of_memory named steady same) two = absurd (omega arith)
+pub usage_cause : (words : List (List ℕ)) (files : Option Files) (loads prints : Change ℕ) (printed : Change (Option Printed)) (status : ℕ) (log : List Event)
+    → Ends words files loads prints printed status log → status ≡ 2 → IsFormless words
+usage_cause words files loads prints printed status log (printed_all s to text l owes steady follows) eq = owes_two _ _ _ _ _ _ _ _ owes eq
+usage_cause words files loads prints printed status log (print_failed s to text l owes rose follows) eq = absurd (omega arith)
+usage_cause words files loads prints printed status log (out_of_memory q asks steady same) eq = absurd (omega arith)
 
-pub refused_cause : (words : List (List ℕ)) (files : Option Files) (loads prints : Change ℕ) (printed : Change (Option Printed)) (status : ℕ)
-    → Ends words files loads prints printed status → status ≡ 3 → NamesRefused words files
-refused_cause words files loads prints printed status (printed_all s to text owes steady follows) three = owes_three _ _ _ _ _ _ _ owes three
-refused_cause words files loads prints printed status (print_failed s to text owes rose follows) three = absurd (omega arith)
-refused_cause words files loads prints printed status (out_of_memory named steady same) three = absurd (omega arith)
+pub refused_cause : (words : List (List ℕ)) (files : Option Files) (loads prints : Change ℕ) (printed : Change (Option Printed)) (status : ℕ) (log : List Event)
+    → Ends words files loads prints printed status log → status ≡ 3 → NamesRefused words files
+refused_cause words files loads prints printed status log (printed_all s to text l owes steady follows) eq = owes_three _ _ _ _ _ _ _ _ owes eq
+refused_cause words files loads prints printed status log (print_failed s to text l owes rose follows) eq = absurd (omega arith)
+refused_cause words files loads prints printed status log (out_of_memory q asks steady same) eq = absurd (omega arith)
 
-pub fault_cause : (words : List (List ℕ)) (files : Option Files) (loads prints : Change ℕ) (printed : Change (Option Printed)) (status : ℕ)
-    → Ends words files loads prints printed status → status ≡ 5 → IsFault words files loads prints
-fault_cause words files loads prints printed status (printed_all s to text owes steady follows) five = owes_five words files loads prints _ _ _ owes five
-fault_cause words files loads prints printed status (print_failed s to text owes rose follows) five = inr (inl rose)
-fault_cause words files loads prints printed status (out_of_memory named steady same) five = absurd (omega arith)
+pub misshapen_cause : (words : List (List ℕ)) (files : Option Files) (loads prints : Change ℕ) (printed : Change (Option Printed)) (status : ℕ) (log : List Event)
+    → Ends words files loads prints printed status log → status ≡ 4 → NamesMisshapen words files
+misshapen_cause words files loads prints printed status log (printed_all s to text l owes steady follows) eq = owes_four _ _ _ _ _ _ _ _ owes eq
+misshapen_cause words files loads prints printed status log (print_failed s to text l owes rose follows) eq = absurd (omega arith)
+misshapen_cause words files loads prints printed status log (out_of_memory q asks steady same) eq = absurd (omega arith)
 
-pub run_cause : (words : List (List ℕ)) (files : Option Files) (loads prints : Change ℕ) (printed : Change (Option Printed)) (status : ℕ)
-    → Ends words files loads prints printed status → IsRunStatus status → NamesRun words files status
-run_cause words files loads prints printed status (printed_all s to text owes steady follows) run = owes_run _ _ _ _ _ _ _ owes run
-run_cause words files loads prints printed status (print_failed s to text owes rose follows) run = absurd (no_run _ (inr (inr (inl refl))) run)
-run_cause words files loads prints printed status (out_of_memory named steady same) run = absurd (no_run _ (inr (inr (inr refl))) run)
+pub fault_cause : (words : List (List ℕ)) (files : Option Files) (loads prints : Change ℕ) (printed : Change (Option Printed)) (status : ℕ) (log : List Event)
+    → Ends words files loads prints printed status log → status ≡ 5 → IsFault words files loads prints
+fault_cause words files loads prints printed status log (printed_all s to text l owes steady follows) eq = owes_five words files loads prints _ _ _ _ owes eq
+fault_cause words files loads prints printed status log (print_failed s to text l owes rose follows) eq = inr (inl rose)
+fault_cause words files loads prints printed status log (out_of_memory q asks steady same) eq = absurd (omega arith)
 
-pub memory_quiet : (words : List (List ℕ)) (files : Option Files) (loads prints : Change ℕ) (printed : Change (Option Printed)) (status : ℕ)
-    → Ends words files loads prints printed status → status ≡ 6 → printed.new ≡ printed.old
-memory_quiet words files loads prints printed status (printed_all s to text owes steady follows) six = absurd (owes_six _ _ _ _ _ _ _ owes six) where
-  owes_six : (words : List (List ℕ)) (files : Option Files) (before after status : ℕ) (to : Stream) (text : List ℕ)
-      → Owes words files before after status to text → status ≡ 6 → ⊥
-  owes_six words files before after status to text (usage none same) six = omega arith
-  owes_six words files before after status to text (failed name named rose) six = omega arith
-  owes_six words files before after status to text (large name size is same) six = omega arith
-  owes_six words files before after status to text (refused bytes refusal given is same) six = omega arith
-  owes_six words files before after status to text (reported bytes s t given is same) six =
-      other_status s 6 (reported_status bytes s t is) six (λ e. omega arith) (λ e. omega arith) (λ e. omega arith)
-memory_quiet words files loads prints printed status (print_failed s to text owes rose follows) six = absurd (omega arith)
-memory_quiet words files loads prints printed status (out_of_memory named steady same) six = same
+pub run_cause : (words : List (List ℕ)) (files : Option Files) (loads prints : Change ℕ) (printed : Change (Option Printed)) (status : ℕ) (log : List Event)
+    → Ends words files loads prints printed status log → IsRunStatus status → NamesRun words files status log
+run_cause words files loads prints printed status log (printed_all s to text l owes steady follows) run = owes_run _ _ _ _ _ _ _ _ owes run
+run_cause words files loads prints printed status log (print_failed s to text l owes rose follows) run = absurd (no_run _ (inr (inr (inr (inl refl)))) run)
+run_cause words files loads prints printed status log (out_of_memory q asks steady same) run = absurd (no_run _ (inr (inr (inr (inr refl)))) run)
+
+-- the records of a run's log are those of a complete sequential run
+pub run_sequential : (words : List (List ℕ)) (files : Option Files) (status : ℕ) (log : List Event)
+    → NamesRun words files status log → RunsSequentially words files log
+run_sequential words files status log named =
+    let run = named.reported in
+    record {
+      request = named.request;
+      asked = named.asked;
+      bytes = named.bytes;
+      given = named.given;
+      machine = run.machine;
+      map = run.map;
+      is_machine = run.is_machine;
+      accepted = run.accepted;
+      final = run.state;
+      complete = plain_complete _ _ _ _ run.run;
+    }
+
+pub memory_quiet : (words : List (List ℕ)) (files : Option Files) (loads prints : Change ℕ) (printed : Change (Option Printed)) (status : ℕ) (log : List Event)
+    → Ends words files loads prints printed status log → status ≡ 6 → printed.new ≡ printed.old
+memory_quiet words files loads prints printed status log (printed_all s to text l owes steady follows) eq = absurd (owes_six _ _ _ _ _ _ _ _ owes eq)
+memory_quiet words files loads prints printed status log (print_failed s to text l owes rose follows) eq = absurd (omega arith)
+memory_quiet words files loads prints printed status log (out_of_memory q asks steady same) eq = same

@@ -1,12 +1,16 @@
 -- Each cause has its status, but for want of memory.
-use Rattle.std.proofs.Common.{◌≡◌, ℕ, ◌<◌, ◌≤◌, ◌⊎◌, inl, inr, List, length, Option, Some, None, IfSome, IsSome, IsSomeAnd, unwrap_or, refl, sym, ◌∙◌, ap, subst, arith}
+use Rattle.std.proofs.Common.{◌≡◌, ℕ, ◌<◌, ◌≤◌, ◌⊎◌, inl, inr, List, length, Option, Some, None, IfSome, IsSomeAnd, unwrap_or, refl, sym, ◌∙◌, ap, subst, arith}
+use Rattle.dash_base.specs.Topology.{simple_refusal}
 use Rattle.dash_base.specs.Outside.{Files, Printed, Rose}
 use Rattle.dash_base.specs.declared.host.Stream.{Stream}
-use Rattle.elf_load.specs.Loader.{refusal_of}
+use Rattle.dash_base.specs.declared.topology.TopoRefusal.{TopoRefusal}
+use Rattle.dash_event.specs.declared.event.Event.{Event}
 use Rattle.elf_load.specs.declared.refusal.LoadRefusal.{LoadRefusal}
-use Rattle.dash_run.specs.CommandLine.{image_name}
-use Rattle.dash_run.specs.Outcome.{Owes, usage, failed, large, refused, reported, Ends, printed_all, print_failed, out_of_memory, Change, IsGiven, IsTooLarge, IsRefused, IsReported, IsAccepted, IsRunStatus, IsSteady, IsClean, image_limit}
+use Rattle.elf_load.specs.Loader.{refusal_of}
+use Rattle.dash_run.specs.CommandLine.{Request, Asks, IsFormless}
+use Rattle.dash_run.specs.Outcome.{Owes, usage, failed, large, misshapen, refused, reported, Ends, printed_all, print_failed, out_of_memory, Change, IsGiven, IsTooLarge, IsRefusedTopology, IsRefused, IsReported, IsAccepted, IsRunStatus, IsSteady, IsClean, image_limit}
 use Rattle.dash_run.proofs.Maps.{one_map}
+use Rattle.dash_run.proofs.Requests.{one_request}
 use Rattle.dash_run.proofs.Causes.{reported_status}
 
 pub some_injective : {A : Type 0} (a b : A) → Some a ≡ Some b → a ≡ b
@@ -16,135 +20,149 @@ some_injective a b same = ap (λ o. unwrap_or o a) same
 pub none_is_none : {A : Type 0} (o : Option A) (a : A) → o ≡ None → o ≡ Some a → ⊥
 none_is_none o a none some = let both : None ≡ Some a = sym none ∙ some in cc
 
-pub is_some_not_none : {A : Type 0} (o : Option A) → IsSome o → o ≡ None → ⊥
-is_some_not_none (Some a) some none = cc
-is_some_not_none None some none = cc
-
 pub not_steady : (count : Change ℕ) → IsSteady count → Rose count.old count.new → ⊥
 not_steady count steady (inl rose) = let same = steady.same in omega arith
 not_steady count steady (inr last) = let below = steady.below in omega arith
 
 -- the file that was given is the one that the host tells
-pub same_bytes : (words : List (List ℕ)) (files : Option Files) (loads prints : Change ℕ) (bytes other : List ℕ)
-    → IsClean words files loads prints bytes → IsGiven words files other → other ≡ bytes
-same_bytes words files loads prints bytes other clean given =
-    let same_name : given.name ≡ clean.name = some_injective _ _ (sym given.named ∙ clean.named) in
-    let told : clean.file_at given.name ≡ Some other =
-    (let from : Option Files → Type 0 = λ f. IfSome f (λ file_at. file_at given.name ≡ Some other) in subst from clean.told given.told) in
-    some_injective _ _ (sym told ∙ ap clean.file_at same_name ∙ clean.there)
+same_bytes_told : (files : Option Files) (file_at : Files) (name bytes other : List ℕ)
+    → files ≡ Some file_at → file_at name ≡ Some bytes → IsGiven files name other → other ≡ bytes
+same_bytes_told files file_at name bytes other told there given =
+    let given_told : file_at name ≡ Some other =
+    (let from : Option Files → Type 0 = λ f. IfSome f (λ at. at name ≡ Some other) in subst from told given.told) in
+    some_injective _ _ (sym given_told ∙ there)
 
-pub size_of_some : (o : Option (List ℕ)) (bytes : List ℕ) (size : ℕ) → o ≡ Some bytes → IsSomeAnd o (λ b. length b ≡ size) → length bytes ≡ size
+pub same_bytes : (words : List (List ℕ)) (files : Option Files) (loads prints : Change ℕ) (q r : Request) (bytes other : List ℕ)
+    → IsClean words files loads prints q bytes → Asks words r → IsGiven files r.name other → other ≡ bytes
+same_bytes words files loads prints q r bytes other clean asks given =
+    let same : r ≡ q = one_request words r q asks clean.asked in
+    let from : Request → Type 0 = λ x. IsGiven files x.name other in
+    same_bytes_told files clean.file_at q.name bytes other clean.told clean.there (subst from same given)
+
+size_of_some : (o : Option (List ℕ)) (bytes : List ℕ) (size : ℕ) → o ≡ Some bytes → IsSomeAnd o (λ b. length b ≡ size) → length bytes ≡ size
 size_of_some (Some b) bytes size same is = ap length (sym (some_injective _ _ same)) ∙ is
 size_of_some None bytes size same is = absurd is
 
 -- and so is its size
-pub same_size : (words : List (List ℕ)) (files : Option Files) (loads prints : Change ℕ) (bytes name : List ℕ) (size : ℕ)
-    → IsClean words files loads prints bytes → IsTooLarge words files name size → length bytes ≡ size
-same_size words files loads prints bytes name size clean is =
-    let same_name : name ≡ clean.name = some_injective _ _ (sym is.named ∙ clean.named) in
-    let told : IsSomeAnd (clean.file_at name) (λ b. length b ≡ size) =
-    (let from : Option Files → Type 0 = λ f. IfSome f (λ file_at. IsSomeAnd (file_at name) (λ b. length b ≡ size)) in subst from clean.told is.told) in
-    size_of_some (clean.file_at name) bytes size (ap clean.file_at same_name ∙ clean.there) told
+pub same_size : (words : List (List ℕ)) (files : Option Files) (loads prints : Change ℕ) (q r : Request) (bytes : List ℕ) (size : ℕ)
+    → IsClean words files loads prints q bytes → Asks words r → IsTooLarge files r.name size → length bytes ≡ size
+same_size words files loads prints q r bytes size clean asks is =
+    let same : r ≡ q = one_request words r q asks clean.asked in
+    let told : IsSomeAnd (clean.file_at r.name) (λ b. length b ≡ size) =
+    (let from : Option Files → Type 0 = λ f. IfSome f (λ at. IsSomeAnd (at r.name) (λ b. length b ≡ size)) in subst from clean.told is.told) in
+    size_of_some (clean.file_at r.name) bytes size (ap (λ x. clean.file_at x.name) same ∙ clean.there) told
 
 -- a file is not both refused and reported
-pub one_answer : (bytes : List ℕ) (refusal : LoadRefusal) (status : ℕ) (text : List ℕ) → IsRefused bytes refusal → IsReported bytes status text → ⊥
-one_answer bytes refusal status text is report =
-    let same = one_map is.machine report.machine is.map report.map is.is_machine report.is_machine in
+pub one_answer : (q : Request) (bytes : List ℕ) (refusal : LoadRefusal) (status : ℕ) (text : List ℕ) (log : List Event) → IsRefused q bytes refusal → IsReported q bytes status text log → ⊥
+one_answer q bytes refusal status text log is report =
+    let same = one_map q is.machine report.machine is.map report.map is.is_machine report.is_machine in
     none_is_none (refusal_of bytes is.map) refusal (ap (refusal_of bytes) same ∙ report.accepted) is.refused
+
+-- what is said of one request and its file is said of the other
+moved : (P : Request → List ℕ → Type 0) (q r : Request) (bytes other : List ℕ) → r ≡ q → other ≡ bytes → P r other → P q bytes
+moved P q r bytes other same_request same_file holds =
+    let at_request : Request → Type 0 = λ x. P x other in
+    let at_file : List ℕ → Type 0 = λ b. P q b in
+    subst at_file same_file (subst at_request same_request holds)
 
 -- ---- no form
 
-owes_no_form : (words : List (List ℕ)) (files : Option Files) (before after status : ℕ) (to : Stream) (text : List ℕ)
-    → Owes words files before after status to text → image_name words ≡ None → status ≡ 2
-owes_no_form words files before after status to text (usage missing same) none = refl
-owes_no_form words files before after status to text (failed name named rose) none = absurd (none_is_none _ _ none named)
-owes_no_form words files before after status to text (large name size is same) none = absurd (none_is_none _ _ none is.named)
-owes_no_form words files before after status to text (refused bytes refusal given is same) none = absurd (none_is_none _ _ none given.named)
-owes_no_form words files before after status to text (reported bytes s t given is same) none = absurd (none_is_none _ _ none given.named)
+owes_no_form : (words : List (List ℕ)) (files : Option Files) (before after status : ℕ) (to : Stream) (text : List ℕ) (log : List Event)
+    → Owes words files before after status to text log → IsFormless words → status ≡ 2
+owes_no_form words files before after status to text log (usage none same) formless = refl
+owes_no_form words files before after status to text log (failed q asks rose) formless = absurd (formless q asks)
+owes_no_form words files before after status to text log (large q size asks is same) formless = absurd (formless q asks)
+owes_no_form words files before after status to text log (misshapen q bytes refusal asks given is same) formless = absurd (formless q asks)
+owes_no_form words files before after status to text log (refused q bytes refusal asks given is same) formless = absurd (formless q asks)
+owes_no_form words files before after status to text log (reported q bytes s t l asks given is same) formless = absurd (formless q asks)
 
-pub no_form_status : (words : List (List ℕ)) (files : Option Files) (loads prints : Change ℕ) (printed : Change (Option Printed)) (status : ℕ)
-    → Ends words files loads prints printed status → image_name words ≡ None → (status ≡ 2) ⊎ ((status ≡ 5) × Rose prints.old prints.new)
-no_form_status words files loads prints printed status (printed_all s to text owes steady follows) none = inl (owes_no_form _ _ _ _ _ _ _ owes none)
-no_form_status words files loads prints printed status (print_failed s to text owes rose follows) none = inr (refl, rose)
-no_form_status words files loads prints printed status (out_of_memory named steady same) none = absurd (is_some_not_none _ named none)
+pub no_form_status : (words : List (List ℕ)) (files : Option Files) (loads prints : Change ℕ) (printed : Change (Option Printed)) (status : ℕ) (log : List Event)
+    → Ends words files loads prints printed status log → IsFormless words → (status ≡ 2) ⊎ ((status ≡ 5) × Rose prints.old prints.new)
+no_form_status words files loads prints printed status log (printed_all s to text l owes steady follows) formless = inl (owes_no_form _ _ _ _ _ _ _ _ owes formless)
+no_form_status words files loads prints printed status log (print_failed s to text l owes rose follows) formless = inr (refl, rose)
+no_form_status words files loads prints printed status log (out_of_memory q asks steady same) formless = absurd (formless q asks)
 
 -- ---- faults
 
-owes_fault : (words : List (List ℕ)) (files : Option Files) (before after status : ℕ) (to : Stream) (text : List ℕ)
-    → Owes words files before after status to text → before < after → status ≡ 5
-owes_fault words files before after status to text (usage missing same) rose = absurd (omega arith)
-owes_fault words files before after status to text (failed name named why) rose = refl
-owes_fault words files before after status to text (large name size is same) rose = absurd (omega arith)
-owes_fault words files before after status to text (refused bytes refusal given is same) rose = absurd (omega arith)
-owes_fault words files before after status to text (reported bytes s t given is same) rose = absurd (omega arith)
+owes_fault : (words : List (List ℕ)) (files : Option Files) (before after status : ℕ) (to : Stream) (text : List ℕ) (log : List Event)
+    → Owes words files before after status to text log → before < after → status ≡ 5
+owes_fault words files before after status to text log (usage none same) up = absurd (omega arith)
+owes_fault words files before after status to text log (failed q asks rose) up = refl
+owes_fault words files before after status to text log (large q size asks is same) up = absurd (omega arith)
+owes_fault words files before after status to text log (misshapen q bytes refusal asks given is same) up = absurd (omega arith)
+owes_fault words files before after status to text log (refused q bytes refusal asks given is same) up = absurd (omega arith)
+owes_fault words files before after status to text log (reported q bytes s t l asks given is same) up = absurd (omega arith)
 
-pub load_fault_status : (words : List (List ℕ)) (files : Option Files) (loads prints : Change ℕ) (printed : Change (Option Printed)) (status : ℕ)
-    → Ends words files loads prints printed status → loads.old < loads.new → (status ≡ 5) ⊎ (status ≡ 6)
-load_fault_status words files loads prints printed status (printed_all s to text owes steady follows) rose = inl (owes_fault _ _ _ _ _ _ _ owes rose)
-load_fault_status words files loads prints printed status (print_failed s to text owes why follows) rose = inl refl
-load_fault_status words files loads prints printed status (out_of_memory named steady same) rose = inr refl
+pub load_fault_status : (words : List (List ℕ)) (files : Option Files) (loads prints : Change ℕ) (printed : Change (Option Printed)) (status : ℕ) (log : List Event)
+    → Ends words files loads prints printed status log → loads.old < loads.new → (status ≡ 5) ⊎ (status ≡ 6)
+load_fault_status words files loads prints printed status log (printed_all s to text l owes steady follows) up = inl (owes_fault _ _ _ _ _ _ _ _ owes up)
+load_fault_status words files loads prints printed status log (print_failed s to text l owes rose follows) up = inl refl
+load_fault_status words files loads prints printed status log (out_of_memory q asks steady same) up = inr refl
 
-pub print_fault_status : (words : List (List ℕ)) (files : Option Files) (loads prints : Change ℕ) (printed : Change (Option Printed)) (status : ℕ)
-    → Ends words files loads prints printed status → prints.old < prints.new → status ≡ 5
-print_fault_status words files loads prints printed status (printed_all s to text owes steady follows) rose = absurd (omega arith)
-print_fault_status words files loads prints printed status (print_failed s to text owes why follows) rose = refl
-print_fault_status words files loads prints printed status (out_of_memory named steady same) rose = absurd (omega arith)
+pub print_fault_status : (words : List (List ℕ)) (files : Option Files) (loads prints : Change ℕ) (printed : Change (Option Printed)) (status : ℕ) (log : List Event)
+    → Ends words files loads prints printed status log → prints.old < prints.new → status ≡ 5
+print_fault_status words files loads prints printed status log (printed_all s to text l owes steady follows) up = absurd (omega arith)
+print_fault_status words files loads prints printed status log (print_failed s to text l owes rose follows) up = refl
+print_fault_status words files loads prints printed status log (out_of_memory q asks steady same) up = absurd (omega arith)
 
 -- ---- files
 
-owes_accepted : (words : List (List ℕ)) (files : Option Files) (loads prints : Change ℕ) (status : ℕ) (to : Stream) (text bytes : List ℕ)
-    → Owes words files loads.old loads.new status to text → IsClean words files loads prints bytes → length bytes ≤ image_limit → IsAccepted bytes
-    → IsRunStatus status
-owes_accepted words files loads prints status to text bytes (usage none same) clean small accepted = absurd (none_is_none _ _ none clean.named)
-owes_accepted words files loads prints status to text bytes (failed name named rose) clean small accepted = absurd (not_steady loads clean.loads_steady rose)
-owes_accepted words files loads prints status to text bytes (large name size is same) clean small accepted =
-    absurd (let size_is = same_size _ _ _ _ _ _ _ clean is in let above = is.large in omega arith)
-owes_accepted words files loads prints status to text bytes (refused other refusal given is same) clean small accepted =
-    absurd (accepted refusal (let from : List ℕ → Type 0 = λ b. IsRefused b refusal in subst from (same_bytes _ _ _ _ _ _ clean given) is))
-owes_accepted words files loads prints status to text bytes (reported other s t given is same) clean small accepted = reported_status other s t is
+owes_accepted : (words : List (List ℕ)) (files : Option Files) (loads prints : Change ℕ) (status : ℕ) (to : Stream) (text : List ℕ) (log : List Event) (r : Request) (file : List ℕ)
+    → Owes words files loads.old loads.new status to text log → IsClean words files loads prints r file → length file ≤ image_limit → IsAccepted r file → IsRunStatus status
+owes_accepted words files loads prints status to text log r file (usage none same) clean small accepted = absurd (none r clean.asked)
+owes_accepted words files loads prints status to text log r file (failed q asks rose) clean small accepted = absurd (not_steady loads clean.loads_steady rose)
+owes_accepted words files loads prints status to text log r file (large q size asks is same) clean small accepted = absurd (let size_is = same_size words files loads prints r q file size clean asks is in let above = is.large in omega arith)
+owes_accepted words files loads prints status to text log r file (misshapen q bytes refusal asks given is same) clean small accepted = absurd (accepted.topology refusal (moved (λ x b. IsRefusedTopology x refusal) r q file bytes (one_request words q r asks clean.asked) (same_bytes words files loads prints r q file bytes clean asks given) is))
+owes_accepted words files loads prints status to text log r file (refused q bytes refusal asks given is same) clean small accepted = absurd (accepted.image refusal (moved (λ x b. IsRefused x b refusal) r q file bytes (one_request words q r asks clean.asked) (same_bytes words files loads prints r q file bytes clean asks given) is))
+owes_accepted words files loads prints status to text log r file (reported q bytes s t l asks given is same) clean small accepted = reported_status q bytes s t l is
 
-pub accepted_status : (words : List (List ℕ)) (files : Option Files) (loads prints : Change ℕ) (printed : Change (Option Printed)) (status : ℕ) (bytes : List ℕ)
-    → Ends words files loads prints printed status → IsClean words files loads prints bytes → length bytes ≤ image_limit → IsAccepted bytes
-    → IsRunStatus status ⊎ (status ≡ 6)
-accepted_status words files loads prints printed status bytes (printed_all s to text owes steady follows) clean small accepted =
-    inl (owes_accepted words files loads prints s to text bytes owes clean small accepted)
-accepted_status words files loads prints printed status bytes (print_failed s to text owes rose follows) clean small accepted =
-    absurd (not_steady prints clean.prints_steady rose)
-accepted_status words files loads prints printed status bytes (out_of_memory named steady same) clean small accepted = inr refl
+owes_no_topology : (words : List (List ℕ)) (files : Option Files) (loads prints : Change ℕ) (status : ℕ) (to : Stream) (text : List ℕ) (log : List Event) (r : Request) (file : List ℕ)
+    → Owes words files loads.old loads.new status to text log → IsClean words files loads prints r file → length file ≤ image_limit → (why : TopoRefusal) → IsRefusedTopology r why → status ≡ 4
+owes_no_topology words files loads prints status to text log r file (usage none same) clean small why first = absurd (none r clean.asked)
+owes_no_topology words files loads prints status to text log r file (failed q asks rose) clean small why first = absurd (not_steady loads clean.loads_steady rose)
+owes_no_topology words files loads prints status to text log r file (large q size asks is same) clean small why first = absurd (let size_is = same_size words files loads prints r q file size clean asks is in let above = is.large in omega arith)
+owes_no_topology words files loads prints status to text log r file (misshapen q bytes refusal asks given is same) clean small why first = refl
+owes_no_topology words files loads prints status to text log r file (refused q bytes refusal asks given is same) clean small why first = absurd (none_is_none (simple_refusal r.clusters r.harts r.budget) why (moved (λ x b. simple_refusal x.clusters x.harts x.budget ≡ None) r q file bytes (one_request words q r asks clean.asked) (same_bytes words files loads prints r q file bytes clean asks given) (is.is_machine).accepted) first.refused)
+owes_no_topology words files loads prints status to text log r file (reported q bytes s t l asks given is same) clean small why first = absurd (none_is_none (simple_refusal r.clusters r.harts r.budget) why (moved (λ x b. simple_refusal x.clusters x.harts x.budget ≡ None) r q file bytes (one_request words q r asks clean.asked) (same_bytes words files loads prints r q file bytes clean asks given) (is.is_machine).accepted) first.refused)
 
-owes_refused : (words : List (List ℕ)) (files : Option Files) (loads prints : Change ℕ) (status : ℕ) (to : Stream) (text bytes : List ℕ) (refusal : LoadRefusal)
-    → Owes words files loads.old loads.new status to text → IsClean words files loads prints bytes → length bytes ≤ image_limit → IsRefused bytes refusal
-    → status ≡ 3
-owes_refused words files loads prints status to text bytes refusal (usage none same) clean small is = absurd (none_is_none _ _ none clean.named)
-owes_refused words files loads prints status to text bytes refusal (failed name named rose) clean small is = absurd (not_steady loads clean.loads_steady rose)
-owes_refused words files loads prints status to text bytes refusal (large name size too_large same) clean small is =
-    absurd (let size_is = same_size _ _ _ _ _ _ _ clean too_large in let above = too_large.large in omega arith)
-owes_refused words files loads prints status to text bytes refusal (refused other first given was same) clean small is = refl
-owes_refused words files loads prints status to text bytes refusal (reported other s t given report same) clean small is =
-    absurd (one_answer bytes refusal s t is (let from : List ℕ → Type 0 = λ b. IsReported b s t in subst from (same_bytes _ _ _ _ _ _ clean given) report))
+owes_no_image : (words : List (List ℕ)) (files : Option Files) (loads prints : Change ℕ) (status : ℕ) (to : Stream) (text : List ℕ) (log : List Event) (r : Request) (file : List ℕ)
+    → Owes words files loads.old loads.new status to text log → IsClean words files loads prints r file → length file ≤ image_limit → (why : LoadRefusal) → IsRefused r file why → status ≡ 3
+owes_no_image words files loads prints status to text log r file (usage none same) clean small why first = absurd (none r clean.asked)
+owes_no_image words files loads prints status to text log r file (failed q asks rose) clean small why first = absurd (not_steady loads clean.loads_steady rose)
+owes_no_image words files loads prints status to text log r file (large q size asks is same) clean small why first = absurd (let size_is = same_size words files loads prints r q file size clean asks is in let above = is.large in omega arith)
+owes_no_image words files loads prints status to text log r file (misshapen q bytes refusal asks given is same) clean small why first = absurd (none_is_none (simple_refusal r.clusters r.harts r.budget) refusal (first.is_machine).accepted ((moved (λ x b. IsRefusedTopology x refusal) r q file bytes (one_request words q r asks clean.asked) (same_bytes words files loads prints r q file bytes clean asks given) is).refused))
+owes_no_image words files loads prints status to text log r file (refused q bytes refusal asks given is same) clean small why first = refl
+owes_no_image words files loads prints status to text log r file (reported q bytes s t l asks given is same) clean small why first = absurd (one_answer r file why s t l first (moved (λ x b. IsReported x b s t l) r q file bytes (one_request words q r asks clean.asked) (same_bytes words files loads prints r q file bytes clean asks given) is))
 
-pub refused_status : (words : List (List ℕ)) (files : Option Files) (loads prints : Change ℕ) (printed : Change (Option Printed)) (status : ℕ) (bytes : List ℕ) (refusal : LoadRefusal)
-    → Ends words files loads prints printed status → IsClean words files loads prints bytes → length bytes ≤ image_limit → IsRefused bytes refusal
-    → (status ≡ 3) ⊎ (status ≡ 6)
-refused_status words files loads prints printed status bytes refusal (printed_all s to text owes steady follows) clean small is =
-    inl (owes_refused words files loads prints s to text bytes refusal owes clean small is)
-refused_status words files loads prints printed status bytes refusal (print_failed s to text owes rose follows) clean small is =
-    absurd (not_steady prints clean.prints_steady rose)
-refused_status words files loads prints printed status bytes refusal (out_of_memory named steady same) clean small is = inr refl
+owes_large : (words : List (List ℕ)) (files : Option Files) (loads prints : Change ℕ) (status : ℕ) (to : Stream) (text : List ℕ) (log : List Event) (r : Request) (file : List ℕ)
+    → Owes words files loads.old loads.new status to text log → IsClean words files loads prints r file → image_limit < length file → status ≡ 5
+owes_large words files loads prints status to text log r file (usage none same) clean above = absurd (none r clean.asked)
+owes_large words files loads prints status to text log r file (failed q asks rose) clean above = refl
+owes_large words files loads prints status to text log r file (large q size asks is same) clean above = refl
+owes_large words files loads prints status to text log r file (misshapen q bytes refusal asks given is same) clean above = absurd (let len = ap length (same_bytes words files loads prints r q file bytes clean asks given) in let small = given.small in omega arith)
+owes_large words files loads prints status to text log r file (refused q bytes refusal asks given is same) clean above = absurd (let len = ap length (same_bytes words files loads prints r q file bytes clean asks given) in let small = given.small in omega arith)
+owes_large words files loads prints status to text log r file (reported q bytes s t l asks given is same) clean above = absurd (let len = ap length (same_bytes words files loads prints r q file bytes clean asks given) in let small = given.small in omega arith)
 
-owes_large : (words : List (List ℕ)) (files : Option Files) (loads prints : Change ℕ) (status : ℕ) (to : Stream) (text bytes : List ℕ)
-    → Owes words files loads.old loads.new status to text → IsClean words files loads prints bytes → image_limit < length bytes → status ≡ 5
-owes_large words files loads prints status to text bytes (usage none same) clean above = absurd (none_is_none _ _ none clean.named)
-owes_large words files loads prints status to text bytes (failed name named rose) clean above = refl
-owes_large words files loads prints status to text bytes (large name size is same) clean above = refl
-owes_large words files loads prints status to text bytes (refused other refusal given is same) clean above =
-    absurd (let len = ap length (same_bytes _ _ _ _ _ _ clean given) in let small = given.small in omega arith)
-owes_large words files loads prints status to text bytes (reported other s t given is same) clean above =
-    absurd (let len = ap length (same_bytes _ _ _ _ _ _ clean given) in let small = given.small in omega arith)
+pub accepted_status : (words : List (List ℕ)) (files : Option Files) (loads prints : Change ℕ) (printed : Change (Option Printed)) (status : ℕ) (log : List Event) (r : Request) (file : List ℕ)
+    → Ends words files loads prints printed status log → IsClean words files loads prints r file → length file ≤ image_limit → IsAccepted r file → IsRunStatus status ⊎ (status ≡ 6)
+accepted_status words files loads prints printed status log r file (printed_all s to text l owes steady follows) clean small accepted = inl (owes_accepted words files loads prints s to text l r file owes clean small accepted)
+accepted_status words files loads prints printed status log r file (print_failed s to text l owes rose follows) clean small accepted = absurd (not_steady prints clean.prints_steady rose)
+accepted_status words files loads prints printed status log r file (out_of_memory q asks steady same) clean small accepted = inr refl
 
-pub large_status : (words : List (List ℕ)) (files : Option Files) (loads prints : Change ℕ) (printed : Change (Option Printed)) (status : ℕ) (bytes : List ℕ)
-    → Ends words files loads prints printed status → IsClean words files loads prints bytes → image_limit < length bytes → (status ≡ 5) ⊎ (status ≡ 6)
-large_status words files loads prints printed status bytes (printed_all s to text owes steady follows) clean above =
-    inl (owes_large words files loads prints s to text bytes owes clean above)
-large_status words files loads prints printed status bytes (print_failed s to text owes rose follows) clean above = inl refl
-large_status words files loads prints printed status bytes (out_of_memory named steady same) clean above = inr refl
+pub no_topology_status : (words : List (List ℕ)) (files : Option Files) (loads prints : Change ℕ) (printed : Change (Option Printed)) (status : ℕ) (log : List Event) (r : Request) (file : List ℕ)
+    → Ends words files loads prints printed status log → IsClean words files loads prints r file → length file ≤ image_limit → (why : TopoRefusal) → IsRefusedTopology r why → (status ≡ 4) ⊎ (status ≡ 6)
+no_topology_status words files loads prints printed status log r file (printed_all s to text l owes steady follows) clean small why first = inl (owes_no_topology words files loads prints s to text l r file owes clean small why first)
+no_topology_status words files loads prints printed status log r file (print_failed s to text l owes rose follows) clean small why first = absurd (not_steady prints clean.prints_steady rose)
+no_topology_status words files loads prints printed status log r file (out_of_memory q asks steady same) clean small why first = inr refl
+
+pub no_image_status : (words : List (List ℕ)) (files : Option Files) (loads prints : Change ℕ) (printed : Change (Option Printed)) (status : ℕ) (log : List Event) (r : Request) (file : List ℕ)
+    → Ends words files loads prints printed status log → IsClean words files loads prints r file → length file ≤ image_limit → (why : LoadRefusal) → IsRefused r file why → (status ≡ 3) ⊎ (status ≡ 6)
+no_image_status words files loads prints printed status log r file (printed_all s to text l owes steady follows) clean small why first = inl (owes_no_image words files loads prints s to text l r file owes clean small why first)
+no_image_status words files loads prints printed status log r file (print_failed s to text l owes rose follows) clean small why first = absurd (not_steady prints clean.prints_steady rose)
+no_image_status words files loads prints printed status log r file (out_of_memory q asks steady same) clean small why first = inr refl
+
+pub large_status : (words : List (List ℕ)) (files : Option Files) (loads prints : Change ℕ) (printed : Change (Option Printed)) (status : ℕ) (log : List Event) (r : Request) (file : List ℕ)
+    → Ends words files loads prints printed status log → IsClean words files loads prints r file → image_limit < length file → (status ≡ 5) ⊎ (status ≡ 6)
+large_status words files loads prints printed status log r file (printed_all s to text l owes steady follows) clean above = inl (owes_large words files loads prints s to text l r file owes clean above)
+large_status words files loads prints printed status log r file (print_failed s to text l owes rose follows) clean above = inl refl
+large_status words files loads prints printed status log r file (out_of_memory q asks steady same) clean above = inr refl

@@ -1,10 +1,11 @@
-pub mod Shifts
-pub mod Opening
-pub mod Steps
+pub mod Printing
+pub mod Texts
+pub mod Words
+pub mod Maps
+pub mod Requests
 pub mod Answers
 pub mod Owing
-pub mod Printing
 pub mod Causes
 pub mod Converses
-pub mod Determined
-pub mod Maps
+pub mod Turns
+pub mod Runs

@@ -4,6 +4,7 @@ use mathlib.Core.HLevel.{is_prop→PathP}
 use Rattle.std.proofs.Props.{props}
 use Rattle.elf_load.specs.declared.memory_map.MemoryMap.{MemoryMap}
 use Rattle.dash_base.specs.declared.topology.Topology.{Topology}
+use Rattle.dash_run.specs.CommandLine.{Request}
 use Rattle.dash_run.specs.Outcome.{IsMachine}
 
 pub same_map : (a b : MemoryMap) → a.base ≡ b.base → a.size ≡ b.size → a ≡ b
@@ -15,8 +16,9 @@ same_map a b base size = λ i. record {
   size_aligned = is_prop→PathP (λ j. size j % 4 ≡ 0) (λ j. hlevel props) a.size_aligned b.size_aligned i;
 }
 
-pub one_map : (t u : Topology) (a b : MemoryMap) → IsMachine t a → IsMachine u b → a ≡ b
-one_map t u a b first second =
+-- a topology of which three keys are given has the default base and size of memory
+pub one_map : (q : Request) (t u : Topology) (a b : MemoryMap) → IsMachine q t a → IsMachine q u b → a ≡ b
+one_map q t u a b first second =
     same_map a b
     (first.base ∙ first.simple.base_is ∙ sym (second.base ∙ second.simple.base_is))
     (first.size ∙ first.simple.memory_is ∙ sym (second.size ∙ second.simple.memory_is))

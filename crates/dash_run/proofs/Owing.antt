@@ -1,20 +1,24 @@
--- What a call owes, from what it has ready.
-use Rattle.std.proofs.Common.{◌≡◌, ℕ, List, ◌++◌, length, Option, Some, None, IfSome, IsSome, IsSomeAnd, string_bytes, sym, ◌∙◌, subst}
+-- What a call owes, from what it has ready; and how it ends.
+use Rattle.std.proofs.Common.{◌≡◌, ℕ, inl, inr, List, [], ◌++◌, length, Option, Some, None, IfSome, IsSomeAnd, string_bytes, sym, ◌∙◌, subst}
 use Rattle.dash_base.specs.Outside.{Files, Printed, Appends, AppendsPart, Follows, Rose}
+use Rattle.dash_base.specs.declared.host.Stream.{Stream}
+use Rattle.dash_event.specs.declared.event.Event.{Event}
 use Rattle.dash_run.specs.declared.owed.Owed.{Owed}
 use Rattle.dash_run.specs.declared.owed.Owed.TheVariants.{Usage, Line, Report}
-use Rattle.dash_run.specs.CommandLine.{image_name}
-use Rattle.dash_run.specs.Outcome.{IsGiven, Owes, refused, reported, Ends, printed_all, print_failed, out_of_memory}
-use Rattle.dash_run.specs.Owed.{IsAnswer, owed_status, owed_stream, owed_text}
+use Rattle.dash_run.specs.CommandLine.{Request, Asks, IsAsked}
+use Rattle.dash_run.specs.Outcome.{IsGiven, Owes, misshapen, refused, reported, Ends, printed_all, print_failed, out_of_memory}
+use Rattle.dash_run.specs.Owed.{IsAnswer, owed_status, owed_stream, owed_text, owed_log}
 
-pub answer_owed : (words : List (List ℕ)) (files : Option Files) (before after : ℕ) (bytes : List ℕ) (owed : Owed)
-    → IsGiven words files bytes → after ≡ before → IsAnswer bytes owed
-    → Owes words files before after (owed_status owed) (owed_stream owed) (owed_text owed)
-answer_owed words files before after bytes Usage given same answer = absurd answer
-answer_owed words files before after bytes (Line status text) given same answer =
-    rw (answer.status_is, answer.text_is) (refused bytes answer.refusal given answer.refused same)
-answer_owed words files before after bytes (Report status console harts) given same answer =
-    reported bytes status (console.items ++ string_bytes harts) given answer same
+pub answer_owed : (words : List (List ℕ)) (files : Option Files) (before after : ℕ) (q : Request) (bytes : List ℕ) (owed : Owed)
+    → Asks words q → IsGiven files q.name bytes → after ≡ before → IsAnswer q bytes owed
+    → Owes words files before after (owed_status owed) (owed_stream owed) (owed_text owed) (owed_log owed)
+answer_owed words files before after q bytes Usage asks given same answer = absurd answer
+answer_owed words files before after q bytes (Line status text) asks given same (inl line) =
+    rw (line.status_is, line.text_is) (misshapen q bytes line.refusal asks given line.refused same)
+answer_owed words files before after q bytes (Line status text) asks given same (inr line) =
+    rw (line.status_is, line.text_is) (refused q bytes line.refusal asks given line.refused same)
+answer_owed words files before after q bytes (Report status console harts accesses log) asks given same answer =
+    reported q bytes status (console.items ++ string_bytes harts ++ string_bytes accesses) log.items asks given answer same
 
 -- what a host says of a file's size, at the size that it answered
 pub told_size : {R : Type 0} (files : Option Files) (name : List ℕ) (answer : ℕ → R) (result : R) (size : ℕ)
@@ -24,29 +28,29 @@ told_size (Some told) name answer result size says is = says size is
 told_size None name answer result size says is = tt
 
 -- how a call ends that printed all it owes
-pub ends_all : (words : List (List ℕ)) (files : Option Files) (l0 l1 l2 p0 p1 p2 : ℕ) (q0 q1 q2 : Option Printed) (owed : Owed)
-    → Owes words files l0 l1 (owed_status owed) (owed_stream owed) (owed_text owed)
-    → l2 ≡ l1 → p1 ≡ p0 → p2 ≡ p1 → q1 ≡ q0 → Follows (Appends (owed_stream owed) (owed_text owed)) q1 q2
-    → Ends words files (record { old = l0; new = l2 }) (record { old = p0; new = p2 }) (record { old = q0; new = q2 }) (owed_status owed)
-ends_all words files l0 l1 l2 p0 p1 p2 q0 q1 q2 owed owes loads before steady kept follows =
-    printed_all (owed_status owed) (owed_stream owed) (owed_text owed)
-    (let from : ℕ → Type 0 = λ l. Owes words files l0 l (owed_status owed) (owed_stream owed) (owed_text owed) in subst from (sym loads) owes)
+pub ends_all : (words : List (List ℕ)) (files : Option Files) (l0 l1 l2 p0 p1 p2 : ℕ) (q0 q1 q2 : Option Printed) (status : ℕ) (to : Stream) (text : List ℕ) (log : List Event)
+    → Owes words files l0 l1 status to text log
+    → l2 ≡ l1 → p1 ≡ p0 → p2 ≡ p1 → q1 ≡ q0 → Follows (Appends to text) q1 q2
+    → Ends words files (record { old = l0; new = l2 }) (record { old = p0; new = p2 }) (record { old = q0; new = q2 }) status log
+ends_all words files l0 l1 l2 p0 p1 p2 q0 q1 q2 status to text log owes loads before steady kept follows =
+    printed_all status to text log
+    (let from : ℕ → Type 0 = λ l. Owes words files l0 l status to text log in subst from (sym loads) owes)
     (steady ∙ before)
-    (let from : Option Printed → Type 0 = λ q. Follows (Appends (owed_stream owed) (owed_text owed)) q q2 in subst from kept follows)
+    (let from : Option Printed → Type 0 = λ q. Follows (Appends to text) q q2 in subst from kept follows)
 
 -- and one whose print failed
-pub ends_part : (words : List (List ℕ)) (files : Option Files) (l0 l1 l2 p0 p1 p2 : ℕ) (q0 q1 q2 : Option Printed) (owed : Owed)
-    → Owes words files l0 l1 (owed_status owed) (owed_stream owed) (owed_text owed)
-    → l2 ≡ l1 → p1 ≡ p0 → Rose p1 p2 → q1 ≡ q0 → Follows (AppendsPart (owed_stream owed) (owed_text owed)) q1 q2
-    → Ends words files (record { old = l0; new = l2 }) (record { old = p0; new = p2 }) (record { old = q0; new = q2 }) 5
-ends_part words files l0 l1 l2 p0 p1 p2 q0 q1 q2 owed owes loads before rose kept follows =
-    print_failed (owed_status owed) (owed_stream owed) (owed_text owed)
-    (let from : ℕ → Type 0 = λ l. Owes words files l0 l (owed_status owed) (owed_stream owed) (owed_text owed) in subst from (sym loads) owes)
+pub ends_part : (words : List (List ℕ)) (files : Option Files) (l0 l1 l2 p0 p1 p2 : ℕ) (q0 q1 q2 : Option Printed) (status : ℕ) (to : Stream) (text : List ℕ) (log : List Event)
+    → Owes words files l0 l1 status to text log
+    → l2 ≡ l1 → p1 ≡ p0 → Rose p1 p2 → q1 ≡ q0 → Follows (AppendsPart to text) q1 q2
+    → Ends words files (record { old = l0; new = l2 }) (record { old = p0; new = p2 }) (record { old = q0; new = q2 }) 5 log
+ends_part words files l0 l1 l2 p0 p1 p2 q0 q1 q2 status to text log owes loads before rose kept follows =
+    print_failed status to text log
+    (let from : ℕ → Type 0 = λ l. Owes words files l0 l status to text log in subst from (sym loads) owes)
     (let from : ℕ → Type 0 = λ p. Rose p p2 in subst from before rose)
-    (let from : Option Printed → Type 0 = λ q. Follows (AppendsPart (owed_stream owed) (owed_text owed)) q q2 in subst from kept follows)
+    (let from : Option Printed → Type 0 = λ q. Follows (AppendsPart to text) q q2 in subst from kept follows)
 
 -- and one that had no memory
 pub ends_early : (words : List (List ℕ)) (files : Option Files) (l0 l1 p0 p1 : ℕ) (q0 q1 : Option Printed)
-    → IsSome (image_name words) → p1 ≡ p0 → q1 ≡ q0
-    → Ends words files (record { old = l0; new = l1 }) (record { old = p0; new = p1 }) (record { old = q0; new = q1 }) 6
-ends_early words files l0 l1 p0 p1 q0 q1 named faults printed = out_of_memory named faults printed
+    → IsAsked words → p1 ≡ p0 → q1 ≡ q0
+    → Ends words files (record { old = l0; new = l1 }) (record { old = p0; new = p1 }) (record { old = q0; new = q1 }) 6 []
+ends_early words files l0 l1 p0 p1 q0 q1 asked faults printed = out_of_memory asked.request asked.asks faults printed

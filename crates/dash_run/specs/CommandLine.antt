@@ -1,13 +1,52 @@
--- The form of a command line that is served: `run IMAGE`.
-use Rattle.std.specs.Prelude.{ℕ, ◌==◌, Bool, false, not, ◌&&◌, if◌then◌else◌, List, [], ◌∷◌, codes, bytes_eq, Option, Some, None}
+-- The forms of a command line that are served: `run IMAGE` and `run IMAGE CLUSTERS HARTS BUDGET`.
+use Rattle.std.specs.Prelude.{◌≡◌, ℕ, ◌^◌, ◌<◌, ◌==◌, Bool, true, false, not, List, [], ◌∷◌, codes, decimal}
+
+-- what is asked for: an image, and the first three keys of a topology
+pub record Request : Type 0 where
+  pub name : List ℕ
+  pub clusters : ℕ
+  pub harts : ℕ
+  pub budget : ℕ
 
 -- a name is not empty and does not begin with `-`
 abbrev pub is_name : List ℕ → Bool
 is_name [] = false
 is_name (c ∷ cs) = not (c == 45)
 
--- the image's name, where the words have the form
-abbrev pub image_name : List (List ℕ) → Option (List ℕ)
-image_name (command ∷ name ∷ []) =
-    if bytes_eq command (codes "run") && is_name name then Some name else None
-image_name _ = None
+-- a word is the decimal spelling of a number of 32 bits
+pub record IsNumber (word : List ℕ) (n : ℕ) : Type 0 where
+  pub spelled : decimal n ≡ word
+  pub small : n < 2 ^ 32
+
+-- `run IMAGE`: one cluster of one hart, 1,000,000 instructions
+pub record AsksAlone (command image : List ℕ) (q : Request) : Type 0 where
+  pub is_run : command ≡ codes "run"
+  pub has_name : is_name image ≡ true
+  pub name_is : q.name ≡ image
+  pub clusters_is : q.clusters ≡ 1
+  pub harts_is : q.harts ≡ 1
+  pub budget_is : q.budget ≡ 1000000
+
+-- `run IMAGE CLUSTERS HARTS BUDGET`
+pub record AsksWith (command image clusters harts budget : List ℕ) (q : Request) : Type 0 where
+  pub is_run : command ≡ codes "run"
+  pub has_name : is_name image ≡ true
+  pub name_is : q.name ≡ image
+  pub clusters_is : IsNumber clusters q.clusters
+  pub harts_is : IsNumber harts q.harts
+  pub budget_is : IsNumber budget q.budget
+
+-- what the words ask for
+abbrev pub Asks : List (List ℕ) → Request → Type 0
+Asks (command ∷ image ∷ []) q = AsksAlone command image q
+Asks (command ∷ image ∷ clusters ∷ harts ∷ budget ∷ []) q = AsksWith command image clusters harts budget q
+Asks _ q = ⊥
+
+-- the words have no form that is served
+abbrev pub IsFormless : List (List ℕ) → Type 0
+IsFormless words = (q : Request) → Asks words q → ⊥
+
+-- the words ask for something
+pub record IsAsked (words : List (List ℕ)) : Type 0 where
+  pub request : Request
+  pub asks : Asks words request

@@ -1,10 +1,45 @@
--- Laws that show that the definitions of a run are right.
-use Rattle.std.specs.Prelude.{◌≡◌, List}
+-- Laws of the plain machine's log, in the words of the sequential machine. Each is the contract of a function of `laws`.
+use Rattle.std.specs.Prelude.{◌≡◌, ℕ, ◌+◌, List, Some, slice_get}
 use Rattle.dash_base.specs.declared.topology.Topology.{Topology}
 use Rattle.elf_load.specs.Image.{ImageView}
-use Rattle.dash_run.specs.Flat.{FlatState, StepRecord, IsWholeRun}
+use Rattle.dash_event.specs.declared.event.Event.{Event}
+use Rattle.flat_model.specs.State.{FlatState}
+use Rattle.flat_model.specs.Run.{IsCompleteRun}
+use Rattle.flat_model.specs.Driven.{IsDriven}
+use Rattle.flat_model.specs.FlatEnd as flat
+use Rattle.dash_run.specs.CommandLine.{Request}
+use Rattle.dash_run.specs.Log.{IsLogged, IsPlainRun, records_of, accesses_of}
+use Rattle.dash_run.specs.Outcome.{IsReported}
 
--- an image has one whole sequential run: its records and its end are determined
-abbrev pub OneWholeRun : Type 0
-OneWholeRun = (image : ImageView) (t : Topology) (rs ss : List StepRecord) (a b : FlatState)
-    → IsWholeRun image t rs a → IsWholeRun image t ss b → (rs ≡ ss) × (a ≡ b)
+-- the records of a log are those of the run that takes the same harts in order
+abbrev pub LoggedRunsAreDriven : Type 0
+LoggedRunsAreDriven =
+    (image : ImageView) (t : Topology) (hs : List ℕ) (log : List Event) (s : FlatState) → IsLogged image t hs log s → IsDriven image t hs (records_of log) s
+
+-- the records of a plain run's log are those of a complete sequential run
+abbrev pub PlainRunIsComplete : Type 0
+PlainRunIsComplete =
+    (image : ImageView) (t : Topology) (log : List Event) (final : FlatState) → IsPlainRun image t log final
+    → IsCompleteRun image t (records_of log) final
+
+-- the accesses of a log, which the report prints, are those of its records, in their order
+abbrev pub PrintedAccessesAreTheRecords : Type 0
+PrintedAccessesAreTheRecords = (log : List Event) → accesses_of log ≡ flat.accesses_of (records_of log)
+
+-- a plain run of an image is one: its log and its final state do not depend on when it is seen to have ended
+abbrev pub OnePlainRun : Type 0
+OnePlainRun =
+    (image : ImageView) (t : Topology) (log log' : List Event) (final final' : FlatState)
+    → IsPlainRun image t log final → IsPlainRun image t log' final' → (log ≡ log') × (final ≡ final')
+
+-- the events of a plain run's log are stamped from 1 on
+abbrev pub StampsCount : Type 0
+StampsCount =
+    (image : ImageView) (t : Topology) (log : List Event) (final : FlatState) → IsPlainRun image t log final
+    → (i : ℕ) (e : Event) → slice_get log i ≡ Some e → e.stamp ≡ i + 1
+
+-- a report is one: a request and the bytes of an image's file have one exit status, one text and one log
+abbrev pub OneReport : Type 0
+OneReport =
+    (q : Request) (bytes : List ℕ) (status status' : ℕ) (text text' : List ℕ) (log log' : List Event)
+    → IsReported q bytes status text log → IsReported q bytes status' text' log' → (status ≡ status') × (text ≡ text') × (log ≡ log')

@@ -1,11 +1,7 @@
-pub mod HartState
-pub mod Arithmetic
-pub mod Access
-pub mod Meaning
-pub mod Flat
-pub mod Held
-pub mod Report
 pub mod CommandLine
+pub mod Log
+pub mod Report
 pub mod Outcome
 pub mod Owed
+pub mod Turns
 pub mod Laws

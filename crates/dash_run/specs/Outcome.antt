@@ -1,16 +1,24 @@
 -- What a call of the program owes, and how it may end.
-use Rattle.std.specs.Prelude.{◌≡◌, ℕ, ◌<◌, ◌≤◌, ◌⊎◌, List, [], ◌++◌, length, codes, decimal, Option, Some, None, IfSome, IsSome, IsSomeAnd}
+use Rattle.std.specs.Prelude.{◌≡◌, ℕ, ◌<◌, ◌≤◌, ◌⊎◌, List, [], ◌++◌, length, codes, decimal, Option, Some, None, IfSome, IsSomeAnd}
 use Rattle.dash_base.specs.Outside.{Files, Printed, Appends, AppendsPart, Follows, Rose, last_count}
-use Rattle.dash_base.specs.Topology.{IsSimple}
+use Rattle.dash_base.specs.Topology.{IsSimple, simple_refusal}
 use Rattle.dash_base.specs.declared.host.Stream.{Stream}
 use Rattle.dash_base.specs.declared.host.Stream.TheVariants as stream
+use Rattle.dash_base.specs.declared.topology.Key.{Key}
+use Rattle.dash_base.specs.declared.topology.Key.TheVariants as key
 use Rattle.dash_base.specs.declared.topology.Topology.{Topology}
+use Rattle.dash_base.specs.declared.topology.TopoRefusal.{TopoRefusal}
+use Rattle.dash_base.specs.declared.topology.TopoRefusal.TheVariants as topo
+use Rattle.dash_event.specs.declared.event.Event.{Event}
 use Rattle.elf_load.specs.Loader.{refusal_of, image_of}
 use Rattle.elf_load.specs.declared.memory_map.MemoryMap.{MemoryMap}
 use Rattle.elf_load.specs.declared.refusal.LoadRefusal.{LoadRefusal}
 use Rattle.elf_load.specs.declared.refusal.LoadRefusal.TheVariants.{Short, NotElf, Unsupported, OutOfMemory}
-use Rattle.dash_run.specs.CommandLine.{image_name}
-use Rattle.dash_run.specs.Flat.{FlatState, StepRecord, IsWholeRun}
+use Rattle.flat_model.specs.State.{FlatState}
+use Rattle.flat_model.specs.Run.{IsCompleteRun}
+use Rattle.flat_model.specs.Held.{harts_of}
+use Rattle.dash_run.specs.CommandLine.{Request, Asks, IsFormless}
+use Rattle.dash_run.specs.Log.{IsPlainRun, records_of}
 use Rattle.dash_run.specs.Report.{newline, report_of, status_of}
 
 -- an image file has at most so many bytes
@@ -29,6 +37,33 @@ unfoldable pub large_line : List ℕ → ℕ → List ℕ
 large_line name size =
     codes "dash: " ++ (name ++ (codes ": " ++ (decimal size ++ (codes " bytes, limit " ++ (decimal image_limit ++ newline)))))
 
+-- the name of a key
+abbrev pub key_text : Key → List ℕ
+key_text key.Clusters = codes "clusters"
+key_text key.Harts = codes "harts"
+key_text key.Budget = codes "budget"
+key_text key.Memory = codes "memory"
+key_text key.Locks = codes "locks"
+key_text key.Base = codes "base"
+key_text key.L2 = codes "l2"
+key_text key.L1 = codes "l1"
+key_text key.Buffer = codes "buffer"
+key_text key.Acks = codes "acks"
+key_text key.Prefetch = codes "prefetch"
+key_text key.Stack = codes "stack"
+
+abbrev pub topology_text : TopoRefusal → List ℕ
+topology_text topo.Syntax = codes "syntax"
+topology_text (topo.Missing k) = codes "missing " ++ key_text k
+topology_text (topo.Unknown name) = codes "unknown " ++ name
+topology_text (topo.Range k) = codes "range " ++ key_text k
+topology_text (topo.NotPower k) = codes "not a power of two " ++ key_text k
+topology_text topo.TooMuch = codes "too much"
+topology_text topo.OutOfMemory = []
+
+unfoldable pub topology_line : TopoRefusal → List ℕ
+topology_line refusal = codes "dash: topology: " ++ topology_text refusal ++ newline
+
 abbrev pub refusal_text : LoadRefusal → List ℕ
 refusal_text (Short at) = codes "1 short at " ++ decimal at
 refusal_text NotElf = codes "2 not an ELF file"
@@ -38,105 +73,137 @@ refusal_text OutOfMemory = []
 unfoldable pub refusal_line : LoadRefusal → List ℕ
 refusal_line refusal = codes "dash: image: " ++ refusal_text refusal ++ newline
 
--- the machine that an image runs on: one cluster of one hart, 1,000,000 instructions
-pub record IsMachine (t : Topology) (map : MemoryMap) : Type 0 where
-  pub simple : IsSimple 1 1 1000000 t
+-- the topology that is asked for is refused, for this cause
+pub record IsRefusedTopology (q : Request) (refusal : TopoRefusal) : Type 0 where
+  pub refused : simple_refusal q.clusters q.harts q.budget ≡ Some refusal
+
+-- the machine that is asked for, and where its memory lies
+pub record IsMachine (q : Request) (t : Topology) (map : MemoryMap) : Type 0 where
+  pub simple : IsSimple q.clusters q.harts q.budget t
+  pub accepted : simple_refusal q.clusters q.harts q.budget ≡ None
   pub base : map.base ≡ t.base
   pub size : map.size ≡ t.memory
 
--- a file with these bytes is refused, for this cause
-pub record IsRefused (bytes : List ℕ) (refusal : LoadRefusal) : Type 0 where
+-- the topology is accepted, and an image with these bytes refused, for this cause
+pub record IsRefused (q : Request) (bytes : List ℕ) (refusal : LoadRefusal) : Type 0 where
   pub machine : Topology
   pub map : MemoryMap
-  pub is_machine : IsMachine machine map
+  pub is_machine : IsMachine q machine map
   pub refused : refusal_of bytes map ≡ Some refusal
 
--- a file with these bytes is accepted, and its whole sequential run ends with this exit status and report
-pub record IsReported (bytes : List ℕ) (status : ℕ) (text : List ℕ) : Type 0 where
+-- the topology and an image with these bytes are accepted, and the plain machine's run of it ends with this exit status, report and log
+pub record IsReported (q : Request) (bytes : List ℕ) (status : ℕ) (text : List ℕ) (log : List Event) : Type 0 where
   pub machine : Topology
   pub map : MemoryMap
-  pub is_machine : IsMachine machine map
+  pub is_machine : IsMachine q machine map
   pub accepted : refusal_of bytes map ≡ None
-  pub records : List StepRecord
   pub state : FlatState
-  pub run : IsWholeRun (image_of bytes) machine records state
-  pub is_status : status ≡ status_of state.hart.end
-  pub is_text : text ≡ report_of state
+  pub run : IsPlainRun (image_of bytes) machine log state
+  pub is_status : status ≡ status_of machine (harts_of machine state)
+  pub is_text : text ≡ report_of machine state log
 
--- the words name an image, whose file is within the limit and has these bytes where files are told
-pub record IsGiven (words : List (List ℕ)) (files : Option Files) (bytes : List ℕ) : Type 0 where
-  pub name : List ℕ
-  pub named : image_name words ≡ Some name
+-- the image's file is within the limit, and has these bytes where files are told
+pub record IsGiven (files : Option Files) (name bytes : List ℕ) : Type 0 where
   pub small : length bytes ≤ image_limit
   pub told : IfSome files (λ file_at. file_at name ≡ Some bytes)
 
--- the words name an image, whose file is larger than the limit
-pub record IsTooLarge (words : List (List ℕ)) (files : Option Files) (name : List ℕ) (size : ℕ) : Type 0 where
-  pub named : image_name words ≡ Some name
+-- it is larger than the limit
+pub record IsTooLarge (files : Option Files) (name : List ℕ) (size : ℕ) : Type 0 where
   pub large : image_limit < size
   pub told : IfSome files (λ file_at. IsSomeAnd (file_at name) (λ bytes. length bytes ≡ size))
 
--- What a call owes, an exit status and one text on one stream, and why. The counts are the host's failed loads, before and after.
-pub data Owes (words : List (List ℕ)) (files : Option Files) (before after : ℕ) : ℕ → Stream → List ℕ → Type 0 where
+-- What a call owes, an exit status, one text on one stream and a log, and why. The counts are the host's failed loads, before and after.
+pub data Owes (words : List (List ℕ)) (files : Option Files) (before after : ℕ) : ℕ → Stream → List ℕ → List Event → Type 0 where
   -- the words have no form that is served
-  usage : image_name words ≡ None → after ≡ before → Owes words files before after 2 stream.Err usage_line
+  usage : IsFormless words → after ≡ before → Owes words files before after 2 stream.Err usage_line []
   -- the image's file couldn't be read
-  failed : (name : List ℕ) → image_name words ≡ Some name → Rose before after
-      → Owes words files before after 5 stream.Err (failed_line name)
+  failed : (q : Request) → Asks words q → Rose before after
+      → Owes words files before after 5 stream.Err (failed_line q.name) []
   -- it is larger than the limit
-  large : (name : List ℕ) (size : ℕ) → IsTooLarge words files name size → after ≡ before
-      → Owes words files before after 5 stream.Err (large_line name size)
-  -- it is refused
-  refused : (bytes : List ℕ) (refusal : LoadRefusal) → IsGiven words files bytes → IsRefused bytes refusal → after ≡ before
-      → Owes words files before after 3 stream.Err (refusal_line refusal)
-  -- its whole sequential run is reported
-  reported : (bytes : List ℕ) (status : ℕ) (text : List ℕ) → IsGiven words files bytes → IsReported bytes status text → after ≡ before
-      → Owes words files before after status stream.Out text
+  large : (q : Request) (size : ℕ) → Asks words q → IsTooLarge files q.name size → after ≡ before
+      → Owes words files before after 5 stream.Err (large_line q.name size) []
+  -- the topology is refused
+  misshapen : (q : Request) (bytes : List ℕ) (refusal : TopoRefusal) → Asks words q → IsGiven files q.name bytes → IsRefusedTopology q refusal → after ≡ before
+      → Owes words files before after 4 stream.Err (topology_line refusal) []
+  -- the image is refused
+  refused : (q : Request) (bytes : List ℕ) (refusal : LoadRefusal) → Asks words q → IsGiven files q.name bytes → IsRefused q bytes refusal → after ≡ before
+      → Owes words files before after 3 stream.Err (refusal_line refusal) []
+  -- its run is reported
+  reported : (q : Request) (bytes : List ℕ) (status : ℕ) (text : List ℕ) (log : List Event) → Asks words q → IsGiven files q.name bytes → IsReported q bytes status text log → after ≡ before
+      → Owes words files before after status stream.Out text log
 
--- counts of a host's faults, or what it had printed, before a call and after it
+-- a count of a host's faults, or what it had printed, before a call and after it
 pub record Change (A : Type 0) : Type 0 where
   pub old : A
   pub new : A
 
--- how a call ended
-pub data Ends (words : List (List ℕ)) (files : Option Files) (loads prints : Change ℕ) (printed : Change (Option Printed)) : ℕ → Type 0 where
+-- how a call ended, with an exit status and a log
+pub data Ends (words : List (List ℕ)) (files : Option Files) (loads prints : Change ℕ) (printed : Change (Option Printed)) : ℕ → List Event → Type 0 where
   -- it printed all that it owes
-  printed_all : (status : ℕ) (to : Stream) (text : List ℕ) → Owes words files loads.old loads.new status to text
-      → prints.new ≡ prints.old → Follows (Appends to text) printed.old printed.new → Ends words files loads prints printed status
+  printed_all : (status : ℕ) (to : Stream) (text : List ℕ) (log : List Event) → Owes words files loads.old loads.new status to text log
+      → prints.new ≡ prints.old → Follows (Appends to text) printed.old printed.new → Ends words files loads prints printed status log
   -- a print failed, after a part of it
-  print_failed : (status : ℕ) (to : Stream) (text : List ℕ) → Owes words files loads.old loads.new status to text
-      → Rose prints.old prints.new → Follows (AppendsPart to text) printed.old printed.new → Ends words files loads prints printed 5
+  print_failed : (status : ℕ) (to : Stream) (text : List ℕ) (log : List Event) → Owes words files loads.old loads.new status to text log
+      → Rose prints.old prints.new → Follows (AppendsPart to text) printed.old printed.new → Ends words files loads prints printed 5 log
   -- there was no memory: it printed nothing
-  out_of_memory : IsSome (image_name words)
-      → prints.new ≡ prints.old → printed.new ≡ printed.old → Ends words files loads prints printed 6
+  out_of_memory : (q : Request) → Asks words q
+      → prints.new ≡ prints.old → printed.new ≡ printed.old → Ends words files loads prints printed 6 []
 
 -- the exit statuses of a run
 abbrev pub IsRunStatus : ℕ → Type 0
-IsRunStatus status = (status ≡ 0) ⊎ (status ≡ 10) ⊎ (status ≡ 11)
+IsRunStatus status = (status ≡ 0) ⊎ (status ≡ 10) ⊎ (status ≡ 11) ⊎ (status ≡ 12)
 
--- no refusal applies to a file with these bytes
-abbrev pub IsAccepted : List ℕ → Type 0
-IsAccepted bytes = (refusal : LoadRefusal) → IsRefused bytes refusal → ⊥
+-- the topology that is asked for is accepted, and no refusal applies to an image with these bytes
+pub record IsAccepted (q : Request) (bytes : List ℕ) : Type 0 where
+  pub topology : (refusal : TopoRefusal) → IsRefusedTopology q refusal → ⊥
+  pub image : (refusal : LoadRefusal) → IsRefused q bytes refusal → ⊥
 
--- the words name an image that is refused
+-- the words ask for a topology that is refused
+pub record NamesMisshapen (words : List (List ℕ)) (files : Option Files) : Type 0 where
+  pub request : Request
+  pub asked : Asks words request
+  pub bytes : List ℕ
+  pub given : IsGiven files request.name bytes
+  pub refusal : TopoRefusal
+  pub refused : IsRefusedTopology request refusal
+
+-- the words ask for an image that is refused
 pub record NamesRefused (words : List (List ℕ)) (files : Option Files) : Type 0 where
+  pub request : Request
+  pub asked : Asks words request
   pub bytes : List ℕ
-  pub given : IsGiven words files bytes
+  pub given : IsGiven files request.name bytes
   pub refusal : LoadRefusal
-  pub refused : IsRefused bytes refusal
+  pub refused : IsRefused request bytes refusal
 
--- the words name an image whose whole run ends with this status
-pub record NamesRun (words : List (List ℕ)) (files : Option Files) (status : ℕ) : Type 0 where
+-- the words ask for a run that ends with this status and log
+pub record NamesRun (words : List (List ℕ)) (files : Option Files) (status : ℕ) (log : List Event) : Type 0 where
+  pub request : Request
+  pub asked : Asks words request
   pub bytes : List ℕ
-  pub given : IsGiven words files bytes
+  pub given : IsGiven files request.name bytes
   pub text : List ℕ
-  pub reported : IsReported bytes status text
+  pub reported : IsReported request bytes status text log
 
--- the words name an image that is larger than the limit
+-- the words ask for a run whose log is that of a complete sequential run within the budgets
+pub record RunsSequentially (words : List (List ℕ)) (files : Option Files) (log : List Event) : Type 0 where
+  pub request : Request
+  pub asked : Asks words request
+  pub bytes : List ℕ
+  pub given : IsGiven files request.name bytes
+  pub machine : Topology
+  pub map : MemoryMap
+  pub is_machine : IsMachine request machine map
+  pub accepted : refusal_of bytes map ≡ None
+  pub final : FlatState
+  pub complete : IsCompleteRun (image_of bytes) machine (records_of log) final
+
+-- the words ask for an image that is larger than the limit
 pub record NamesLarge (words : List (List ℕ)) (files : Option Files) : Type 0 where
-  pub name : List ℕ
+  pub request : Request
+  pub asked : Asks words request
   pub size : ℕ
-  pub large : IsTooLarge words files name size
+  pub large : IsTooLarge files request.name size
 
 -- the causes of status 5
 abbrev pub IsFault : List (List ℕ) → Option Files → Change ℕ → Change ℕ → Type 0
@@ -147,12 +214,11 @@ pub record IsSteady (count : Change ℕ) : Type 0 where
   pub same : count.new ≡ count.old
   pub below : count.old < last_count
 
--- a call in which no fault was counted, whose words name an image with these bytes, where the host tells its files
-pub record IsClean (words : List (List ℕ)) (files : Option Files) (loads prints : Change ℕ) (bytes : List ℕ) : Type 0 where
+-- a call in which no fault was counted, which asks for an image with these bytes, where the host tells its files
+pub record IsClean (words : List (List ℕ)) (files : Option Files) (loads prints : Change ℕ) (q : Request) (bytes : List ℕ) : Type 0 where
+  pub asked : Asks words q
   pub file_at : Files
   pub told : files ≡ Some file_at
-  pub name : List ℕ
-  pub named : image_name words ≡ Some name
-  pub there : file_at name ≡ Some bytes
+  pub there : file_at q.name ≡ Some bytes
   pub loads_steady : IsSteady loads
   pub prints_steady : IsSteady prints

@@ -1,53 +1,94 @@
 -- What the program has ready to print, as contracts see it.
-use Rattle.std.specs.Prelude.{◌≡◌, ℕ, List, ◌++◌, string_bytes}
+use Rattle.std.specs.Prelude.{◌≡◌, ℕ, ◌⊎◌, List, [], ◌++◌, Some, None, string_bytes}
 use Rattle.dash_base.specs.declared.host.Stream.{Stream}
 use Rattle.dash_base.specs.declared.host.Stream.TheVariants as stream
 use Rattle.dash_base.specs.declared.topology.Topology.{Topology}
+use Rattle.dash_base.specs.declared.topology.TopoRefusal.{TopoRefusal}
+use Rattle.dash_event.specs.declared.event.Event.{Event}
 use Rattle.elf_load.specs.Image.{ImageView}
+use Rattle.elf_load.specs.Loader.{refusal_of, image_of}
+use Rattle.elf_load.specs.declared.memory_map.MemoryMap.{MemoryMap}
 use Rattle.elf_load.specs.declared.refusal.LoadRefusal.{LoadRefusal}
+use Rattle.flat_model.specs.State.{FlatState}
+use Rattle.flat_model.specs.Held.{harts_of}
 use Rattle.dash_run.specs.declared.owed.Owed.{Owed}
 use Rattle.dash_run.specs.declared.owed.Owed.TheVariants.{Usage, Line, Report}
-use Rattle.dash_run.specs.Flat.{FlatState, StepRecord, IsWholeRun}
+use Rattle.dash_run.specs.CommandLine.{Request}
+use Rattle.dash_run.specs.Log.{IsPlainRun}
 use Rattle.dash_run.specs.Report.{report_of, status_of}
-use Rattle.dash_run.specs.Outcome.{usage_line, refusal_line, IsRefused, IsReported}
+use Rattle.dash_run.specs.Outcome.{usage_line, topology_line, refusal_line, IsRefusedTopology, IsRefused, IsReported}
 
 abbrev pub owed_status : Owed → ℕ
 owed_status Usage = 2
 owed_status (Line status text) = status
-owed_status (Report status console harts) = status
+owed_status (Report status console harts accesses log) = status
 
 abbrev pub owed_stream : Owed → Stream
 owed_stream Usage = stream.Err
 owed_stream (Line status text) = stream.Err
-owed_stream (Report status console harts) = stream.Out
+owed_stream (Report status console harts accesses log) = stream.Out
 
 abbrev pub owed_text : Owed → List ℕ
 owed_text Usage = usage_line
 owed_text (Line status text) = string_bytes text
-owed_text (Report status console harts) = console.items ++ string_bytes harts
+owed_text (Report status console harts accesses log) = console.items ++ string_bytes harts ++ string_bytes accesses
 
--- the line for a file that is refused
-pub record IsRefusalLine (bytes : List ℕ) (status : ℕ) (text : List ℕ) : Type 0 where
+abbrev pub owed_log : Owed → List Event
+owed_log (Report status console harts accesses log) = log.items
+owed_log _ = []
+
+-- the line for a topology that is refused
+pub record IsTopologyLine (q : Request) (status : ℕ) (text : List ℕ) : Type 0 where
+  pub refusal : TopoRefusal
+  pub refused : IsRefusedTopology q refusal
+  pub status_is : status ≡ 4
+  pub text_is : text ≡ topology_line refusal
+
+-- the line for an image that is refused
+pub record IsRefusalLine (q : Request) (bytes : List ℕ) (status : ℕ) (text : List ℕ) : Type 0 where
   pub refusal : LoadRefusal
-  pub refused : IsRefused bytes refusal
+  pub refused : IsRefused q bytes refusal
   pub status_is : status ≡ 3
   pub text_is : text ≡ refusal_line refusal
 
--- what is owed for a file with these bytes
-abbrev pub IsAnswer : List ℕ → Owed → Type 0
-IsAnswer bytes Usage = ⊥
-IsAnswer bytes (Line status text) = IsRefusalLine bytes status (string_bytes text)
-IsAnswer bytes (Report status console harts) = IsReported bytes status (console.items ++ string_bytes harts)
+-- what is owed for an image with these bytes
+abbrev pub IsAnswer : Request → List ℕ → Owed → Type 0
+IsAnswer q bytes Usage = ⊥
+IsAnswer q bytes (Line status text) = IsTopologyLine q status (string_bytes text) ⊎ IsRefusalLine q bytes status (string_bytes text)
+IsAnswer q bytes (Report status console harts accesses log) =
+    IsReported q bytes status (console.items ++ string_bytes harts ++ string_bytes accesses) log.items
 
--- the report of an image's whole sequential run
-pub record IsRunReport (image : ImageView) (t : Topology) (status : ℕ) (text : List ℕ) : Type 0 where
-  pub records : List StepRecord
+-- the report of an image's run
+pub record IsRunReport (image : ImageView) (t : Topology) (status : ℕ) (text : List ℕ) (log : List Event) : Type 0 where
   pub state : FlatState
-  pub run : IsWholeRun image t records state
-  pub is_status : status ≡ status_of state.hart.end
-  pub is_text : text ≡ report_of state
+  pub run : IsPlainRun image t log state
+  pub is_status : status ≡ status_of t (harts_of t state)
+  pub is_text : text ≡ report_of t state log
 
 -- what is owed is that report
 abbrev pub IsReport : ImageView → Topology → Owed → Type 0
-IsReport image t (Report status console harts) = IsRunReport image t status (console.items ++ string_bytes harts)
+IsReport image t (Report status console harts accesses log) =
+    IsRunReport image t status (console.items ++ string_bytes harts ++ string_bytes accesses) log.items
 IsReport image t _ = ⊥
+
+-- what is owed on a topology that is accepted: the refusal of the image, or its report
+pub record IsRefusalOn (t : Topology) (bytes : List ℕ) (status : ℕ) (text : List ℕ) : Type 0 where
+  pub map : MemoryMap
+  pub base : map.base ≡ t.base
+  pub size : map.size ≡ t.memory
+  pub refusal : LoadRefusal
+  pub refused : refusal_of bytes map ≡ Some refusal
+  pub status_is : status ≡ 3
+  pub text_is : text ≡ refusal_line refusal
+
+pub record IsReportOn (t : Topology) (bytes : List ℕ) (owed : Owed) : Type 0 where
+  pub map : MemoryMap
+  pub base : map.base ≡ t.base
+  pub size : map.size ≡ t.memory
+  pub accepted : refusal_of bytes map ≡ None
+  pub report : IsReport (image_of bytes) t owed
+
+abbrev pub IsAnswerOn : Topology → List ℕ → Owed → Type 0
+IsAnswerOn t bytes Usage = ⊥
+IsAnswerOn t bytes (Line status text) = IsRefusalOn t bytes status (string_bytes text)
+IsAnswerOn t bytes (Report status console harts accesses log) = IsReportOn t bytes (Report status console harts accesses log)

@@ -1,18 +1,45 @@
 -- The text of a report, and the exit status of a run.
-use Rattle.std.specs.Prelude.{ℕ, ◌+◌, ◌^◌, ◌-◌, false, List, [], ◌∷◌, ◌++◌, length, slice_range, codes, decimal, flat_map}
+use Rattle.std.specs.Prelude.{ℕ, ◌+◌, ◌^◌, ◌-◌, Bool, true, false, ◌&&◌, not, nat_lt, if◌then◌else◌, List, [], ◌∷◌, ◌++◌, length, slice_range, codes, decimal, flat_map, Option, Some, None}
+use Rattle.std.specs.List.{list_any}
 use Rattle.std.specs.Fmt.{digits, format_spec, padded_integral}
 use Rattle.dash_base.specs.declared.end.End.{End}
 use Rattle.dash_base.specs.declared.end.End.TheVariants.{Running, Exited, Trapped}
 use Rattle.dash_base.specs.declared.end.Trap.{Trap}
 use Rattle.dash_base.specs.declared.end.Trap.TheVariants as trap
-use Rattle.dash_run.specs.HartState.{HartState}
-use Rattle.dash_run.specs.Flat.{FlatState}
+use Rattle.dash_base.specs.declared.topology.Topology.{Topology}
+use Rattle.dash_event.specs.declared.access.Access.{Access}
+use Rattle.dash_event.specs.declared.access.Op.{Op}
+use Rattle.dash_event.specs.declared.access.Op.TheVariants as op
+use Rattle.dash_event.specs.declared.access.Seen.{Seen}
+use Rattle.dash_event.specs.declared.access.Seen.TheVariants as seen
+use Rattle.dash_event.specs.declared.event.Event.{Event}
+use Rattle.hart_core.specs.HartState.{HartState, is_running}
+use Rattle.flat_model.specs.State.{FlatState}
+use Rattle.flat_model.specs.Held.{harts_of}
+use Rattle.dash_run.specs.Log.{accesses_of}
 
--- the exit status of a run, by how its hart rests
-abbrev pub status_of : End → ℕ
-status_of (Exited code) = 0
-status_of Running = 10
-status_of (Trapped cause value) = 11
+abbrev pub is_trapped : End → Bool
+is_trapped (Trapped cause value) = true
+is_trapped _ = false
+
+abbrev pub has_trapped : HartState → Bool
+has_trapped h = is_trapped h.end
+
+-- a hart has spent its budget, and did not end
+abbrev pub has_spent : Topology → HartState → Bool
+has_spent t h = is_running h.end && not (nat_lt h.retired t.budget)
+
+-- a hart that neither ended nor spent its budget: where a run ends, it waits
+abbrev pub is_left : Topology → HartState → Bool
+is_left t h = is_running h.end && nat_lt h.retired t.budget
+
+-- the exit status of a run: 11 where some hart trapped, else 10 where some spent its budget, else 12 where some waits, else 0
+abbrev pub status_of : Topology → List HartState → ℕ
+status_of t harts =
+    if list_any has_trapped harts then 11
+    else (if list_any (has_spent t) harts then 10
+    else (if list_any (is_left t) harts then 12
+    else 0))
 
 -- eight small hexadecimal digits
 unfoldable pub hex : ℕ → List ℕ
@@ -31,19 +58,19 @@ cause_text trap.LockUse = codes "lockuse"
 cause_text trap.BadCall = codes "badcall"
 cause_text trap.Break = codes "break"
 
--- how a hart rests: a running one has spent its budget
-abbrev pub end_text : End → List ℕ
-end_text (Exited code) = codes "exit " ++ hex code
-end_text (Trapped cause value) = codes "trap " ++ cause_text cause ++ codes " " ++ hex value
-end_text Running = codes "budget"
+-- how a hart that may have instructions left rests
+abbrev pub end_text : Bool → End → List ℕ
+end_text has_left (Exited code) = codes "exit " ++ hex code
+end_text has_left (Trapped cause value) = codes "trap " ++ cause_text cause ++ codes " " ++ hex value
+end_text has_left Running = if has_left then codes "waits" else codes "budget"
 
 unfoldable pub console_section : List ℕ → List ℕ
 console_section console =
     codes "console " ++ decimal (length console) ++ newline ++ console ++ newline
 
-unfoldable pub hart_line : ℕ → HartState → List ℕ
-hart_line number h =
-    codes "hart " ++ decimal number ++ codes " " ++ end_text h.end ++ codes " pc " ++ hex h.pc ++ codes " retired " ++ decimal h.retired ++ newline
+unfoldable pub hart_line : Topology → ℕ → HartState → List ℕ
+hart_line t number h =
+    codes "hart " ++ decimal number ++ codes " " ++ end_text (nat_lt h.retired t.budget) h.end ++ codes " pc " ++ hex h.pc ++ codes " retired " ++ decimal h.retired ++ newline
 
 -- each word after a space
 abbrev pub words_text : List ℕ → List ℕ
@@ -57,16 +84,67 @@ register_line label words = label ++ words_text words ++ newline
 abbrev pub eight_from : ℕ → List ℕ → List ℕ
 eight_from first registers = slice_range registers first (first + 8)
 
+-- the lines of one hart
+unfoldable pub hart_text : Topology → ℕ → HartState → List ℕ
+hart_text t number h =
+    hart_line t number h
+    ++ register_line (codes "x0") (eight_from 0 h.registers) ++ register_line (codes "x8") (eight_from 8 h.registers)
+    ++ register_line (codes "x16") (eight_from 16 h.registers) ++ register_line (codes "x24") (eight_from 24 h.registers)
+
+-- the lines of harts whose numbers begin with one
+abbrev pub harts_text : Topology → ℕ → List HartState → List ℕ
+harts_text t number [] = []
+harts_text t number (h ∷ hs) = hart_text t number h ++ harts_text t (number + 1) hs
+
 unfoldable pub status_line : ℕ → List ℕ
 status_line status = codes "status " ++ decimal status ++ newline
 
-unfoldable pub harts_section : HartState → List ℕ
-harts_section h =
-    hart_line 0 h
-    ++ register_line (codes "x0") (eight_from 0 h.registers) ++ register_line (codes "x8") (eight_from 8 h.registers)
-    ++ register_line (codes "x16") (eight_from 16 h.registers) ++ register_line (codes "x24") (eight_from 24 h.registers)
-    ++ status_line (status_of h.end)
+unfoldable pub harts_section : Topology → List HartState → List ℕ
+harts_section t harts = harts_text t 0 harts ++ status_line (status_of t harts)
 
--- the report of a run that ended in this state
-abbrev pub report_of : FlatState → List ℕ
-report_of s = console_section s.console ++ harts_section s.hart
+abbrev pub op_text : Op → List ℕ
+op_text op.Load = codes "load"
+op_text op.Store = codes "store"
+op_text op.Reserve = codes "lr"
+op_text op.Cond = codes "sc"
+op_text op.Amo = codes "amo"
+op_text op.Ask = codes "ask"
+op_text op.Unlock = codes "unlock"
+
+abbrev pub labels_text : Bool → Bool → List ℕ
+labels_text false false = codes "-"
+labels_text true false = codes "a"
+labels_text false true = codes "r"
+labels_text true true = codes "ar"
+
+-- a word, or `-` for none
+abbrev pub word_text : Option ℕ → List ℕ
+word_text (Some word) = hex word
+word_text None = codes "-"
+
+abbrev pub seen_text : Seen → List ℕ
+seen_text (seen.Line version) = codes "line " ++ decimal version
+seen_text (seen.Own number) = codes "own " ++ decimal number
+seen_text (seen.Lock count) = codes "lock " ++ decimal count
+seen_text seen.Nothing = codes "-"
+
+-- an access: its hart, number, operation, labels, word, mask, what it read, what it wrote, and what it was shown
+unfoldable pub access_head : Access → List ℕ
+access_head a =
+    decimal a.hart.0 ++ codes " " ++ decimal a.number ++ codes " " ++ op_text a.op ++ codes " " ++ labels_text a.labels.aq a.labels.rl ++ codes " "
+
+unfoldable pub access_tail : Access → List ℕ
+access_tail a =
+    hex a.word.0 ++ codes " " ++ digits 16 false a.mask ++ codes " " ++ word_text a.read ++ codes " " ++ word_text a.written ++ codes " "
+
+unfoldable pub access_line : Access → List ℕ
+access_line a = access_head a ++ access_tail a ++ seen_text a.seen ++ newline
+
+unfoldable pub access_section : List Access → List ℕ
+access_section accesses =
+    codes "accesses " ++ decimal (length accesses) ++ newline ++ flat_map access_line accesses
+
+-- the report of a run that ended in this state with this log
+abbrev pub report_of : Topology → FlatState → List Event → List ℕ
+report_of t s log =
+    console_section s.console ++ harts_section t (harts_of t s) ++ access_section (accesses_of log)

@@ -1,26 +1,39 @@
-//! From the bytes of an image file to what is to be printed.
+//! From a topology and the bytes of an image file to what is to be printed.
 ghost use Rattle.std.specs.Prelude.{◌≡◌, IfOk};
-ghost use Rattle.dash_base.specs.Topology.{IsSimple};
-ghost use Rattle.dash_run.specs.Owed.{IsAnswer, IsReport};
+ghost use Rattle.dash_run.specs.Owed.{IsAnswer, IsAnswerOn, IsReport};
 
+use crate::access_text::access_section;
+use crate::command_line::Command;
 use crate::lines;
-use crate::memory::map_of;
 use crate::owed::Owed;
 use crate::report::{console_section, harts_section, status_of};
-use crate::run::run;
+use crate::rotation::run;
 use dash_base::{OutOfMemory, Topology};
-use elf_load::{Image, LoadRefusal, load};
+use elf_load::{Image, LoadRefusal, MemoryMap, load};
 use std::alloc::Global;
 
-/// What is owed for an image file with these bytes.
-pub fn answer(alloc: Global, bytes: Vec<u8>) -> Result<Owed, OutOfMemory>
-    ensures { IfOk result (IsAnswer bytes.items) }
+/// What is owed for an image file with these bytes: the refusal of the topology, or of the image, or
+/// the report of the run.
+pub fn answer(alloc: Global, command: &Command<'_>, bytes: Vec<u8>) -> Result<Owed, OutOfMemory>
+    ensures { IfOk result (IsAnswer (record { name = command.now.name.now; clusters = command.now.clusters; harts = command.now.harts; budget = command.now.budget }) bytes.items) }
 {
-    let topology = machine();
-    match load(alloc, bytes.as_slice(), map_of(&topology)) {
+    match Topology::simple(command.clusters, command.harts, command.budget) {
+        Ok(topology) => Ok(answer_on(alloc, &topology, bytes)?),
+        Err(refusal) => Ok(Owed::Line {
+            status: 4,
+            text: lines::misshapen(alloc, &refusal)?,
+        }),
+    }
+}
+
+/// What is owed on a topology that is accepted.
+fn answer_on(alloc: Global, topology: &Topology, bytes: Vec<u8>) -> Result<Owed, OutOfMemory>
+    ensures { IfOk result (IsAnswerOn topology.now bytes.items) }
+{
+    match load(alloc, bytes.as_slice(), map_of(topology)) {
         Ok(image) => {
             drop(bytes);
-            Ok(report(alloc, &image, &topology)?)
+            Ok(report(alloc, &image, topology)?)
         }
         Err(LoadRefusal::OutOfMemory) => Err(OutOfMemory),
         Err(refusal) => Ok(Owed::Line {
@@ -30,24 +43,27 @@ pub fn answer(alloc: Global, bytes: Vec<u8>) -> Result<Owed, OutOfMemory>
     }
 }
 
-/// One cluster of one hart, which may retire 1,000,000 instructions.
-fn machine() -> Topology
-    ensures { IsSimple 1 1 1000000 result }
+/// Where memory lies.
+fn map_of(topology: &Topology) -> MemoryMap
+    ensures base { result.base ≡ topology.now.base }
+    ensures size { result.size ≡ topology.now.memory }
 {
-    match Topology::simple(1, 1, 1_000_000) {
-        Ok(topology) => topology,
-        Err(_) => unreachable!(),
+    MemoryMap {
+        base: topology.base,
+        size: topology.memory,
     }
 }
 
-/// The report of an image's whole run.
+/// The report of an image's run.
 fn report(alloc: Global, image: &Image, topology: &Topology) -> Result<Owed, OutOfMemory>
     ensures { IfOk result (IsReport image.now topology.now) }
 {
     let finished = run(alloc, image, topology)?;
     Ok(Owed::Report {
-        status: status_of(finished.hart.end()),
+        status: status_of(topology, finished.harts.as_slice()),
         console: console_section(alloc, finished.console.as_slice())?,
-        harts: harts_section(alloc, &finished.hart)?,
+        harts: harts_section(alloc, topology, finished.harts.as_slice())?,
+        accesses: access_section(alloc, finished.log.as_slice())?,
+        log: finished.log,
     })
 }

@@ -1,21 +1,20 @@
 //! From the words of a command line to the printed report.
+//!
+//! [`dash`] is the call that the program makes. Its contract is the theorem: what a call owes, and how
+//! it may end.
 #![tactic(auto)]
 
 pub use top::{Ended, dash};
 
-mod access;
-mod alu;
+mod access_text;
 mod answer;
 mod command_line;
-mod hart;
+mod event;
 pub mod laws;
 mod lines;
-mod memory;
-mod need;
 mod owed;
 mod report;
-mod run;
+mod rotation;
 #[cfg(test)]
 mod tests;
 mod top;
-mod width;

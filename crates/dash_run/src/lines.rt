@@ -1,9 +1,9 @@
 //! The lines on standard error.
-ghost use Rattle.std.specs.Prelude.{◌≡◌, ◌≢◌, IfOk, string_bytes};
+ghost use Rattle.std.specs.Prelude.{◌≡◌, ◌≢◌, ◌++◌, IfOk, OnOk, string_bytes};
 ghost use Rattle.elf_load.specs.declared.refusal.LoadRefusal.TheVariants as load_refusal;
-ghost use Rattle.dash_run.specs.Outcome.{usage_line, failed_line, large_line, refusal_line, refusal_text, image_limit};
+ghost use Rattle.dash_run.specs.Outcome.{usage_line, failed_line, large_line, topology_line, topology_text, key_text, refusal_line, refusal_text, image_limit};
 
-use dash_base::OutOfMemory;
+use dash_base::{Key, OutOfMemory, TopoRefusal};
 use elf_load::LoadRefusal;
 use std::alloc::Global;
 
@@ -33,6 +33,63 @@ pub fn too_large(alloc: Global, name: &str, size: u64) -> Result<String, OutOfMe
 {
     let limit = IMAGE_LIMIT;
     Ok(format!(in alloc; "dash: {name}: {size} bytes, limit {limit}\n")?)
+}
+
+/// The line for a topology that is refused.
+#[tactic(auto, unfolding(crate::specs::Outcome::topology_line))]
+pub fn misshapen(alloc: Global, refusal: &TopoRefusal) -> Result<String, OutOfMemory>
+    ensures { IfOk result (λ text. string_bytes text ≡ topology_line refusal.now) }
+{
+    let mut text = String::from_str(alloc, "dash: topology: ")?;
+    push_cause(&mut text, refusal)?;
+    text.push_str("\n")?;
+    Ok(text)
+}
+
+/// Why a topology is refused.
+fn push_cause(text: &mut String, refusal: &TopoRefusal) -> Result<(), OutOfMemory>
+    ensures { OnOk result (string_bytes text.new ≡ string_bytes text.old ++ topology_text refusal.now) }
+{
+    match refusal {
+        TopoRefusal::Syntax => text.push_str("syntax")?,
+        TopoRefusal::Missing { key } => push_key(text, "missing ", *key)?,
+        TopoRefusal::Unknown { key } => {
+            text.push_str("unknown ")?;
+            text.push_str(key.text.as_str())?;
+        }
+        TopoRefusal::Range { key } => push_key(text, "range ", *key)?,
+        TopoRefusal::NotPower { key } => push_key(text, "not a power of two ", *key)?,
+        TopoRefusal::TooMuch => text.push_str("too much")?,
+        TopoRefusal::OutOfMemory => {}
+    }
+    Ok(())
+}
+
+fn push_key(text: &mut String, cause: &str, key: Key) -> Result<(), OutOfMemory>
+    ensures { OnOk result (string_bytes text.new ≡ string_bytes text.old ++ (cause.now ++ key_text key)) }
+{
+    text.push_str(cause)?;
+    text.push_str(key_name(key))?;
+    Ok(())
+}
+
+fn key_name(key: Key) -> &'static str
+    ensures { result.now ≡ key_text key }
+{
+    match key {
+        Key::Clusters => "clusters",
+        Key::Harts => "harts",
+        Key::Budget => "budget",
+        Key::Memory => "memory",
+        Key::Locks => "locks",
+        Key::Base => "base",
+        Key::L2 => "l2",
+        Key::L1 => "l1",
+        Key::Buffer => "buffer",
+        Key::Acks => "acks",
+        Key::Prefetch => "prefetch",
+        Key::Stack => "stack",
+    }
 }
 
 /// The line for an image that is refused, for another cause than memory.

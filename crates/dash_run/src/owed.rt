@@ -1,5 +1,8 @@
 //! What a call has ready to print.
 
+use dash_event::Event;
+use std::alloc::Global;
+
 /// What a call owes when nothing more fails: an exit status, and text on one stream.
 #[derive(Drop)]
 pub enum Owed {
@@ -10,17 +13,19 @@ pub enum Owed {
         status: u8,
         text: String,
     },
-    /// The two sections of a report on standard output.
+    /// The three sections of a report on standard output, and the log of the run.
     Report {
         status: u8,
         console: Vec<u8>,
         harts: String,
+        accesses: String,
+        log: Vec<Event>,
     },
 }
 
 impl Owed {
     ghost use Rattle.std.specs.Prelude.{◌≡◌};
-    ghost use Rattle.dash_run.specs.Owed.{owed_status};
+    ghost use Rattle.dash_run.specs.Owed.{owed_status, owed_log};
 
     pub fn status(&self) -> u8
         ensures { result ≡ owed_status self.now }
@@ -28,6 +33,16 @@ impl Owed {
         match self {
             Owed::Usage => 2,
             Owed::Line { status, .. } | Owed::Report { status, .. } => *status,
+        }
+    }
+
+    /// The log of the run, or an empty one where none was made.
+    pub fn into_log(self, alloc: Global) -> Vec<Event>
+        ensures { result.items ≡ owed_log self }
+    {
+        match self {
+            Owed::Report { log, .. } => log,
+            _ => Vec::new(alloc),
         }
     }
 }

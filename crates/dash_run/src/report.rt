@@ -1,21 +1,64 @@
-//! The text of a report, in its two sections.
-ghost use Rattle.std.specs.Prelude.{◌≡◌, ◌++◌, codes, length, IfOk, OnOk, string_bytes};
-ghost use Rattle.dash_run.specs.Report.{hex, status_of, cause_text, end_text, console_section, hart_line, register_line, status_line, harts_section, words_text};
+//! The text of a report, and the exit status of a run.
+ghost use Rattle.std.specs.Prelude.{◌≡◌, ◌++◌, codes, length, IfOk, OnOk, string_bytes, nat_lt};
+ghost use Rattle.std.specs.List.{list_any};
+ghost use Rattle.dash_run.specs.Report.{hex, status_of, has_trapped, has_spent, is_left, cause_text, end_text, console_section, hart_line, register_line, hart_text, harts_text, status_line, harts_section, words_text};
 
-use crate::hart::Hart;
-use dash_base::{End, OutOfMemory, Trap};
+use dash_base::{End, OutOfMemory, Topology, Trap};
+use hart_core::Hart;
 use std::alloc::Global;
 use std::fmt::Write;
 
-/// The exit status of a run whose hart rests like this.
-pub fn status_of(end: End) -> u8
-    ensures { result ≡ status_of end }
+/// The exit status of a run whose harts stand like this.
+pub fn status_of(topology: &Topology, harts: &[Hart]) -> u8
+    ensures { result ≡ status_of topology.now harts.now }
 {
-    match end {
-        End::Exited(_) => 0,
-        End::Running => 10,
-        End::Trapped { .. } => 11,
+    if any_has_trapped(harts) {
+        11
+    } else if any_has_spent(topology, harts) {
+        10
+    } else if any_is_left(topology, harts) {
+        12
+    } else {
+        0
     }
+}
+
+fn any_has_trapped(harts: &[Hart]) -> bool
+    ensures { result ≡ list_any has_trapped harts.now }
+{
+    harts.iter().any(has_trapped)
+}
+
+fn any_has_spent(topology: &Topology, harts: &[Hart]) -> bool
+    ensures { result ≡ list_any (has_spent topology.now) harts.now }
+{
+    harts.iter().any(|hart| has_spent(topology, hart))
+}
+
+fn any_is_left(topology: &Topology, harts: &[Hart]) -> bool
+    ensures { result ≡ list_any (is_left topology.now) harts.now }
+{
+    harts.iter().any(|hart| is_left(topology, hart))
+}
+
+fn has_trapped(hart: &Hart) -> bool
+    ensures { result ≡ has_trapped hart.now }
+{
+    matches!(hart.end(), End::Trapped { .. })
+}
+
+/// Whether a hart has spent its budget and did not end.
+fn has_spent(topology: &Topology, hart: &Hart) -> bool
+    ensures { result ≡ has_spent topology.now hart.now }
+{
+    matches!(hart.end(), End::Running) && hart.retired() >= topology.budget
+}
+
+/// Whether a hart neither ended nor spent its budget.
+fn is_left(topology: &Topology, hart: &Hart) -> bool
+    ensures { result ≡ is_left topology.now hart.now }
+{
+    matches!(hart.end(), End::Running) && hart.retired() < topology.budget
 }
 
 /// The console section: how many bytes were put, and the bytes.
@@ -31,46 +74,83 @@ pub fn console_section(alloc: Global, console: &[u8]) -> Result<Vec<u8>, OutOfMe
     Ok(text)
 }
 
-/// The harts section: how the hart rests, its registers, and the exit status.
+/// The harts section: how each hart rests, its registers, and the exit status.
 #[tactic(auto, unfolding(crate::specs::Report::harts_section, crate::specs::Report::status_line))]
-pub fn harts_section(alloc: Global, hart: &Hart) -> Result<String, OutOfMemory>
-    ensures { IfOk result (λ text. string_bytes text ≡ harts_section hart.now) }
+pub fn harts_section(
+    alloc: Global,
+    topology: &Topology,
+    harts: &[Hart],
+) -> Result<String, OutOfMemory>
+    ensures { IfOk result (λ text. string_bytes text ≡ harts_section topology.now harts.now) }
 {
-    let mut text = hart_line(alloc, 0, hart)?;
-    let registers = hart.registers();
-    push_registers(&mut text, "x0", &registers[0..8])?;
-    push_registers(&mut text, "x8", &registers[8..16])?;
-    push_registers(&mut text, "x16", &registers[16..24])?;
-    push_registers(&mut text, "x24", &registers[24..32])?;
-    let status = status_of(hart.end());
+    let mut text = String::new(alloc);
+    push_harts(&mut text, topology, harts)?;
+    let status = status_of(topology, harts);
     write!(text, "status {status}\n")?;
     Ok(text)
 }
 
-/// The line that says how a hart rests.
-#[tactic(auto, unfolding(crate::specs::Report::hart_line, crate::specs::Report::hex))]
-fn hart_line(alloc: Global, number: u32, hart: &Hart) -> Result<String, OutOfMemory>
-    ensures { IfOk result (λ text. string_bytes text ≡ hart_line number hart.now) }
+/// The lines of all harts.
+fn push_harts(text: &mut String, topology: &Topology, harts: &[Hart]) -> Result<(), OutOfMemory>
+    ensures { OnOk result (string_bytes text.new ≡ string_bytes text.old ++ harts_text topology.now 0 harts.now) }
 {
-    let end = end_text(alloc, hart.end())?;
-    let pc = hart.pc();
-    let retired = hart.retired();
-    Ok(format!(in alloc; "hart {number} {end} pc {pc:08x} retired {retired}\n")?)
+    for (number, hart) in harts.iter().enumerate() {
+        push_hart(text, topology, number, hart)?;
+    }
+    Ok(())
 }
 
-/// How a hart rests: a running one has spent its budget.
+/// The lines of one hart.
+#[tactic(auto, unfolding(crate::specs::Report::hart_text))]
+fn push_hart(
+    text: &mut String,
+    topology: &Topology,
+    number: usize,
+    hart: &Hart,
+) -> Result<(), OutOfMemory>
+    ensures { OnOk result (string_bytes text.new ≡ string_bytes text.old ++ hart_text topology.now number hart.now) }
+{
+    push_hart_line(text, topology, number, hart)?;
+    let registers = hart.registers();
+    push_registers(text, "x0", &registers[0..8])?;
+    push_registers(text, "x8", &registers[8..16])?;
+    push_registers(text, "x16", &registers[16..24])?;
+    push_registers(text, "x24", &registers[24..32])?;
+    Ok(())
+}
+
+/// The line that says how a hart rests.
+#[tactic(auto, unfolding(crate::specs::Report::hart_line, crate::specs::Report::hex))]
+fn push_hart_line(
+    text: &mut String,
+    topology: &Topology,
+    number: usize,
+    hart: &Hart,
+) -> Result<(), OutOfMemory>
+    ensures { OnOk result (string_bytes text.new ≡ string_bytes text.old ++ hart_line topology.now number hart.now) }
+{
+    write!(text, "hart {number} ")?;
+    let retired = hart.retired();
+    push_end(text, hart.end(), retired < topology.budget)?;
+    let pc = hart.pc();
+    write!(text, " pc {pc:08x} retired {retired}\n")?;
+    Ok(())
+}
+
+/// How a hart that may have instructions left rests.
 #[tactic(auto, unfolding(crate::specs::Report::hex))]
-fn end_text(alloc: Global, end: End) -> Result<String, OutOfMemory>
-    ensures { IfOk result (λ text. string_bytes text ≡ end_text end) }
+fn push_end(text: &mut String, end: End, has_left: bool) -> Result<(), OutOfMemory>
+    ensures { OnOk result (string_bytes text.new ≡ string_bytes text.old ++ end_text has_left end) }
 {
     match end {
-        End::Exited(code) => Ok(format!(in alloc; "exit {code:08x}")?),
+        End::Exited(code) => write!(text, "exit {code:08x}")?,
         End::Trapped { cause, value } => {
             let cause = cause_name(cause);
-            Ok(format!(in alloc; "trap {cause} {value:08x}")?)
+            write!(text, "trap {cause} {value:08x}")?
         }
-        End::Running => Ok(String::from_str(alloc, "budget")?),
+        End::Running => text.push_str(if has_left { "waits" } else { "budget" })?,
     }
+    Ok(())
 }
 
 fn cause_name(cause: Trap) -> &'static str

@@ -1,3 +1,4 @@
 pub mod Layout
 pub mod Served
 pub mod Decoding
+pub mod Hints

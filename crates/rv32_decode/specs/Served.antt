@@ -1,24 +1,9 @@
--- The instructions that are served yet: those of the base integer set but FENCE.
-use Rattle.std.specs.Prelude.{Bool, true, false}
+-- The instructions that are served yet: all but multiplications and divisions.
+use Rattle.std.specs.Prelude.{Bool, true}
+use Rattle.dash_base.specs.Operations.{is_base}
 use Rattle.dash_base.specs.declared.instr.Instr.{Instr}
 use Rattle.dash_base.specs.declared.instr.Instr.TheVariants as instr
-use Rattle.dash_base.specs.declared.ops.AluOp.{AluOp}
-use Rattle.dash_base.specs.declared.ops.AluOp.TheVariants.{Mul, Mulh, Mulhsu, Mulhu, Div, Divu, Rem, Remu}
-
--- not a multiplication or a division
-abbrev pub is_base : AluOp → Bool
-is_base Mul = false
-is_base Mulh = false
-is_base Mulhsu = false
-is_base Mulhu = false
-is_base Div = false
-is_base Divu = false
-is_base Rem = false
-is_base Remu = false
-is_base _ = true
 
 abbrev pub is_served : Instr → Bool
 is_served (instr.Op i) = is_base i.op
-is_served (instr.Amo i) = false
-is_served (instr.Fence i) = false
 is_served _ = true

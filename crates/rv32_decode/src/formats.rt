@@ -4,8 +4,10 @@ ghost use Rattle.rv32_decode.specs.Decoding.{IsDecoding};
 ghost use Rattle.rv32_decode.specs.Layout.{bits_from, u_type};
 
 use crate::fields::{bits, signed};
-use crate::tables::{alu_op, branch_op, immediate_op, load_op, shift_op, store_op};
-use dash_base::{Branch, Instr, Jal, Jalr, Load, Op, OpImm, Store, Upper};
+use crate::tables::{alu_op, amo_op, branch_op, immediate_op, load_op, shift_op, store_op};
+use dash_base::{
+    Amo, AmoOp, Branch, Fence, Instr, Jal, Jalr, Labels, Load, Op, OpImm, Store, Upper,
+};
 
 /// The operands of LUI and AUIPC.
 pub fn upper(word: u32) -> Upper
@@ -142,6 +144,48 @@ pub fn op(word: u32) -> Option<Instr>
         rs1: bits(word, 15, 5),
         rs2: bits(word, 20, 5),
     }))
+}
+
+/// An atomic operation on a word, whose funct7 is a funct5, aq and rl. LR has no source.
+pub fn amo(word: u32) -> Option<Instr>
+    requires { bits_from 0 7 word ≡ 0b0101111 }
+    ensures { IsDecoding word result }
+{
+    if bits(word, 12, 3) != 0b010 {
+        return None;
+    }
+    let op = amo_op(bits(word, 27, 5))?;
+    let rs2 = bits(word, 20, 5);
+    if matches!(op, AmoOp::Lr) && rs2 != 0 {
+        return None;
+    }
+    Some(Instr::Amo(Amo {
+        op,
+        labels: Labels {
+            aq: bits(word, 26, 1) == 1,
+            rl: bits(word, 25, 1) == 1,
+        },
+        rd: bits(word, 7, 5),
+        rs1: bits(word, 15, 5),
+        rs2,
+    }))
+}
+
+/// FENCE, with its fields as they stand.
+pub fn fence(word: u32) -> Option<Instr>
+    requires { bits_from 0 7 word ≡ 0b0001111 }
+    ensures { IsDecoding word result }
+{
+    match bits(word, 12, 3) {
+        0b000 => Some(Instr::Fence(Fence {
+            fm: bits(word, 28, 4),
+            pred: bits(word, 24, 4),
+            succ: bits(word, 20, 4),
+            rd: bits(word, 7, 5),
+            rs1: bits(word, 15, 5),
+        })),
+        _ => None,
+    }
 }
 
 /// ECALL and EBREAK, the only two words of their opcode that are served.

@@ -12,10 +12,14 @@ ghost use Rattle.rv32_decode.specs.Served.{is_served};
 
 pub use dash_base::{AluOp, AmoOp, BranchOp, Instr, LoadOp, StoreOp};
 use fields::bits;
+pub use hints::hint;
+pub use prefetch::{Hint, HintKind};
 
 mod fields;
 mod formats;
+mod hints;
 pub mod laws;
+mod prefetch;
 mod tables;
 
 /// The instruction that has this word. None where none has it, or none that is served.
@@ -41,6 +45,8 @@ fn row(word: u32) -> Option<Instr>
         0b0100011 => formats::store(word),
         0b0010011 => formats::op_imm(word),
         0b0110011 => formats::op(word),
+        0b0101111 => formats::amo(word),
+        0b0001111 => formats::fence(word),
         0b1110011 => formats::system(word),
         _ => None,
     }

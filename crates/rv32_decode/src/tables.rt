@@ -2,14 +2,15 @@
 ghost use Rattle.std.specs.Prelude.{◌≡◌, ◌≢◌, IfSome, IfNone, IsTrue, false};
 ghost use Rattle.dash_base.specs.Ranges.{has_immediate};
 ghost use Rattle.dash_base.specs.declared.ops.AluOp.{AluOp};
+ghost use Rattle.dash_base.specs.declared.ops.AmoOp.{AmoOp};
 ghost use Rattle.dash_base.specs.declared.ops.BranchOp.{BranchOp};
 ghost use Rattle.dash_base.specs.declared.ops.LoadOp.{LoadOp};
 ghost use Rattle.dash_base.specs.declared.ops.StoreOp.{StoreOp};
-ghost use Rattle.rv32_decode.specs.Layout.{alu_funct3, alu_funct7, is_shift};
+ghost use Rattle.rv32_decode.specs.Layout.{alu_funct3, alu_funct7, amo_funct5, is_shift};
 ghost use Rattle.rv32_decode.specs.Layout.{branch_funct3, load_funct3, store_funct3};
-ghost use Rattle.rv32_decode.specs.Served.{is_base};
+ghost use Rattle.dash_base.specs.Operations.{is_base};
 
-use dash_base::{AluOp, BranchOp, LoadOp, StoreOp};
+use dash_base::{AluOp, AmoOp, BranchOp, LoadOp, StoreOp};
 
 /// The condition of a branch.
 pub fn branch_op(funct3: u32) -> Option<BranchOp>
@@ -109,6 +110,27 @@ pub fn alu_op(funct7: u32, funct3: u32) -> Option<AluOp>
         (0b0100000, 0b101) => Some(AluOp::Sra),
         (0b0000000, 0b110) => Some(AluOp::Or),
         (0b0000000, 0b111) => Some(AluOp::And),
+        _ => None,
+    }
+}
+
+/// An atomic operation.
+pub fn amo_op(funct5: u32) -> Option<AmoOp>
+    ensures some { IfSome result (λ op. amo_funct5 op ≡ funct5) }
+    ensures none { IfNone result ((op : AmoOp) → amo_funct5 op ≢ funct5) }
+{
+    match funct5 {
+        0b00010 => Some(AmoOp::Lr),
+        0b00011 => Some(AmoOp::Sc),
+        0b00001 => Some(AmoOp::Swap),
+        0b00000 => Some(AmoOp::Add),
+        0b00100 => Some(AmoOp::Xor),
+        0b01100 => Some(AmoOp::And),
+        0b01000 => Some(AmoOp::Or),
+        0b10000 => Some(AmoOp::Min),
+        0b10100 => Some(AmoOp::Max),
+        0b11000 => Some(AmoOp::Minu),
+        0b11100 => Some(AmoOp::Maxu),
         _ => None,
     }
 }

@@ -1,6 +1,6 @@
 //! Words as GNU as makes them, and words that objdump refuses or that are not served.
 use super::*;
-use dash_base::{Branch, Jal, Jalr, Load, Op, OpImm, Store, Upper};
+use dash_base::{Branch, Jal, Jalr, Labels, Load, Op, OpImm, Store, Upper};
 
 #[test]
 fn words_of_the_assembler(rt: HostRuntime) {
@@ -163,12 +163,80 @@ fn words_of_no_served_instruction(rt: HostRuntime) {
         0x0000_3003, // a load with funct3 3
         0x0000_3023, // a store with funct3 3
         0x0020_0073, // URET
-        0x1405_22AF, // LR.W
         0x1415_22AF, // LR.W with a source
+        0x1405_32AF, // LR.D
+        0x4865_22AF, // AMO with funct5 9
         0x02A3_0333, // MUL
-        0x0000_000F, // FENCE
+        0x0000_100F, // FENCE.I
     ];
     for word in words {
         assert_eq!(rt; decode(word), None, "at {word:08x}");
+    }
+}
+
+#[test]
+fn atomic_operations_of_the_assembler(rt: HostRuntime) {
+    let table = [
+        (0x1405_22AF, AmoOp::Lr, true, false, 0),
+        (0x1005_22AF, AmoOp::Lr, false, false, 0),
+        (0x1605_22AF, AmoOp::Lr, true, true, 0),
+        (0x1A65_22AF, AmoOp::Sc, false, true, 6),
+        (0x0C65_22AF, AmoOp::Swap, true, false, 6),
+        (0x0665_22AF, AmoOp::Add, true, true, 6),
+        (0x2065_22AF, AmoOp::Xor, false, false, 6),
+        (0x6065_22AF, AmoOp::And, false, false, 6),
+        (0x4065_22AF, AmoOp::Or, false, false, 6),
+        (0x8065_22AF, AmoOp::Min, false, false, 6),
+        (0xA065_22AF, AmoOp::Max, false, false, 6),
+        (0xC065_22AF, AmoOp::Minu, false, false, 6),
+        (0xE065_22AF, AmoOp::Maxu, false, false, 6),
+    ];
+    for (word, op, aq, rl, rs2) in table {
+        let found = match decode(word) {
+            Some(Instr::Amo(i)) => Some((i.op, i.labels, [i.rd, i.rs1, i.rs2])),
+            _ => None,
+        };
+        let expected = Some((op, Labels { aq, rl }, [5, 10, rs2]));
+        assert_eq!(rt; found, expected, "at {word:08x}");
+    }
+}
+
+#[test]
+fn fences_of_the_assembler(rt: HostRuntime) {
+    let table = [
+        (0x0FF0_000F, [0, 15, 15, 0, 0]), // fence
+        (0x0310_000F, [0, 3, 1, 0, 0]), // fence rw,w
+        (0x8330_000F, [8, 3, 3, 0, 0]), // fence.tso
+    ];
+    for (word, fields) in table {
+        let found = match decode(word) {
+            Some(Instr::Fence(i)) => Some([i.fm, i.pred, i.succ, i.rd, i.rs1]),
+            _ => None,
+        };
+        assert_eq!(rt; found, Some(fields), "at {word:08x}");
+    }
+}
+
+#[test]
+fn prefetches_of_the_assembler(rt: HostRuntime) {
+    let table = [
+        (0x0005_6013, Some((HintKind::Fetch, 10, 0))), // prefetch.i 0(a0)
+        (0x0415_6013, Some((HintKind::Shared, 10, 64))), // prefetch.r 64(a0)
+        (0xFE35_E013, Some((HintKind::Exclusive, 11, -32))), // prefetch.w -32(a1)
+        (0x0025_6013, None), // ori zero,a0,2
+        (0x0015_6093, None), // ori ra,a0,1
+        (0x0015_7013, None), // andi zero,a0,1
+        (0x00B5_6033, None), // or zero,a0,a1
+    ];
+    for (word, expected) in table {
+        let found = match decode(word) {
+            Some(instr) => hint(&instr),
+            None => None,
+        };
+        let expected = match expected {
+            Some((kind, rs1, offset)) => Some(Hint { kind, rs1, offset }),
+            None => None,
+        };
+        assert_eq!(rt; found, expected, "at {word:08x}");
     }
 }

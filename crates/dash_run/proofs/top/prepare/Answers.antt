@@ -9,15 +9,14 @@ returns-in_default-clause-owes g c = usage c.in_default.ensures.none refl
 
 pub returns-in_ok-answer-in-Ok-clause-owes : goal.returns-in_ok-answer-in-Ok-clause-owes
 returns-in_ok-answer-in-Ok-clause-owes g c =
-    answer_owed _ _ _ _ c.in-Ok.bytes.items c.in_ok-answer-in-Ok.field-0 (record { name = c.in-Some.name.now; named = c.in-Some.ensures.some; small = search rules; told = c.in-Ok.ensures.bytes }) c.in-Ok.ensures.counted c.in_ok-answer-in-Ok.ensures
+    answer_owed _ _ _ _ _ c.in-Ok.bytes.items c.in_ok-answer-in-Ok.field-0 c.in-Some.ensures.some (record { small = search rules; told = c.in-Ok.ensures.bytes }) c.in-Ok.ensures.counted c.in_ok-answer-in-Ok.ensures
 
 pub returns-in_ok-too_large-in-Err-TooLarge-clause-owes : goal.returns-in_ok-too_large-in-Err-TooLarge-clause-owes
 returns-in_ok-too_large-in-Err-TooLarge-clause-owes g c =
     let is = c.in-Err-TooLarge.is ∙ ap Err c.in-Err-TooLarge.field-0-is in
     let counted = rw c.in-Err-TooLarge.field-0-is at c.in-Err-TooLarge.ensures.counted in
     rw c.in_ok-too_large-in-Err-TooLarge.ensures
-    (large c.in-Some.name.now c.in-Err-TooLarge.size (record {
-      named = c.in-Some.ensures.some;
+    (large _ c.in-Err-TooLarge.size c.in-Some.ensures.some (record {
       large = c.load.ensures.large c.in-Err-TooLarge.size is;
       told = told_size _ _ (λ s. Err (TooLarge s)) _ _ c.load.ensures.size is;
     }) counted)
@@ -25,4 +24,4 @@ returns-in_ok-too_large-in-Err-TooLarge-clause-owes g c =
 pub returns-in_ok-failed-in-Err-Failed-clause-owes : goal.returns-in_ok-failed-in-Err-Failed-clause-owes
 returns-in_ok-failed-in-Err-Failed-clause-owes g c =
     let counted = rw c.in-Err-Failed.field-0-is at c.in-Err-Failed.ensures.counted in
-    rw c.in_ok-failed-in-Err-Failed.ensures (failed c.in-Some.name.now c.in-Some.ensures.some counted)
+    rw c.in_ok-failed-in-Err-Failed.ensures (failed _ c.in-Some.ensures.some counted)

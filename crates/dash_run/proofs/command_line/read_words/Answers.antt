@@ -1,0 +1,11 @@
+use Rattle.std.proofs.Common.{string_bytes}
+use Rattle.dash_run.proofs.Words.{two_mapped, five_mapped}
+use Rattle.dash_run.proofs.command_line.read_words.Goals as goal
+
+pub returns-in-len2-clause-none : goal.returns-in-len2-clause-none
+returns-in-len2-clause-none c =
+    rw (two_mapped string_bytes c.args.words.now c.command-item.result c.image-item.result c.as_str.result.now c.as_str-in-len2.result.now c.in-len2.len_at_least c.in-len2.len_below c.command-item.is c.image-item.is c.as_str.ensures.value c.as_str-in-len2.ensures.value) c.read_alone.ensures.none
+
+pub returns-in-len5-clause-none : goal.returns-in-len5-clause-none
+returns-in-len5-clause-none c =
+    rw (five_mapped string_bytes c.args.words.now c.command-item-then-words-lt6.result c.image-item-then-words-lt6.result c.clusters-item.result c.harts-item.result c.budget-item.result c.as_str-in-len5.result.now c.as_str-in-len5-2.result.now c.as_str-in-len5-3.result.now c.as_str-in-len5-4.result.now c.as_str-in-len5-5.result.now c.in-len5.len_at_least c.in-len5.len_below c.command-item-then-words-lt6.is c.image-item-then-words-lt6.is c.clusters-item.is c.harts-item.is c.budget-item.is c.as_str-in-len5.ensures.value c.as_str-in-len5-2.ensures.value c.as_str-in-len5-3.ensures.value c.as_str-in-len5-4.ensures.value c.as_str-in-len5-5.ensures.value) c.read_with.ensures.none

@@ -1,0 +1,17 @@
+pub mod State
+pub mod Offered
+pub mod Step
+pub mod Run
+pub mod InOrder
+pub mod Driven
+pub mod Labels
+pub mod Order
+pub mod Race
+pub mod LastBefore
+pub mod Reserved
+pub mod OrderLaws
+pub mod RunLaws
+pub mod ReadLaws
+pub mod Held
+pub mod Change
+pub mod FlatEnd

@@ -1,0 +1,4 @@
+pub mod HartState
+pub mod Opening
+pub mod Access
+pub mod Meaning

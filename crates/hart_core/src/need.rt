@@ -1,0 +1,69 @@
+//! What a hart finds at its pc, and what it needs to go on.
+
+use dash_base::{AmoOp, End, Instr, Labels, Mask, WordAddr};
+use rv32_decode::HintKind;
+
+/// What stands at an address.
+#[derive(Clone, Copy, Debug, PartialEq, Eq)]
+pub enum Found {
+    /// Its four bytes are not all in one executable segment.
+    NoWord,
+    /// A word that is no instruction that is served.
+    NoInstr(u32),
+    This(Instr),
+}
+
+/// What a hart needs for its next instruction.
+#[derive(Clone, Copy, Debug, PartialEq, Eq)]
+pub enum Need {
+    /// It ended, or retired its budget, and does nothing.
+    Rest,
+    /// Nothing from outside the hart.
+    Alu,
+    /// A fence. Where it waits, what the hart wrote before is to be seen by all others first.
+    Fence {
+        waits: bool,
+    },
+    /// A prefetch of what stands at an address, which nothing waits for.
+    Hint {
+        kind: HintKind,
+        address: u32,
+    },
+    /// A byte is to go to the console.
+    Put {
+        byte: u8,
+    },
+    /// The hart ends.
+    Stop {
+        end: End,
+    },
+    /// Bytes of a word of memory are to be read. LR also sets the hart's reservation.
+    Load {
+        word: WordAddr,
+        mask: Mask,
+        labels: Labels,
+        reserve: bool,
+    },
+    /// Bytes of `value`, which stand in their places in the word, are to be written.
+    Store {
+        word: WordAddr,
+        mask: Mask,
+        value: u32,
+    },
+    /// A word of memory is to be read and written at once, by SC or another atomic operation.
+    Rmw {
+        word: WordAddr,
+        op: AmoOp,
+        operand: u32,
+        labels: Labels,
+    },
+    /// `value` is to be written to a lock word as soon as that word is 0.
+    Ask {
+        word: WordAddr,
+        value: u32,
+    },
+    /// 0 is to be written to a lock word, whatever stands there.
+    Unlock {
+        word: WordAddr,
+    },
+}
