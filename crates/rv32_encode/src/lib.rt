@@ -11,6 +11,7 @@ pub use dash_base::Instr;
 mod fields;
 mod formats;
 mod instrs;
+pub mod laws;
 mod tables;
 
 /// The word of an instruction.
