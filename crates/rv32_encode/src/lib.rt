@@ -34,3 +34,6 @@ pub fn encode(instr: &Instr) -> u32
         Instr::Ebreak => 0x0010_0073,
     }
 }
+
+#[cfg(test)]
+mod tests;
