@@ -4,7 +4,7 @@
     python3 tests/reference.py IMAGE [CLUSTERS HARTS BUDGET]
 
 prints the report of IMAGE and ends with its exit status. It is written from the RISC-V unprivileged
-manual (chapters "RV32I Base Integer Instruction Set", "A" and "Zicbop") and from docs/instructions.md and
+manual (chapters "RV32I Base Integer Instruction Set", "M", "A" and "Zicbop") and from docs/instructions.md and
 docs/formats.md. It shares no code with the program, takes one slow step for each instruction, and is not
 proved.
 """
@@ -148,7 +148,13 @@ def j_immediate(word):
     return signed(bits, 21)
 
 
-# By funct3; the shifts and SUB are told apart by funct7 as well.
+def quotient(a, b):
+    """Of two numbers with any signs, rounded towards zero; the divisor is not 0."""
+    size = abs(a) // abs(b)
+    return size if (a < 0) == (b < 0) else -size
+
+
+# By funct3 and funct7. Results are cut to 32 bits by the caller: the quotient of -2^31 by -1, too, which makes it -2^31.
 ARITHMETIC = {
     (0b000, 0b0000000): lambda a, b: a + b,
     (0b000, 0b0100000): lambda a, b: a - b,
@@ -160,7 +166,18 @@ ARITHMETIC = {
     (0b101, 0b0100000): lambda a, b: signed(a) >> (b & 31),
     (0b110, 0b0000000): lambda a, b: a | b,
     (0b111, 0b0000000): lambda a, b: a & b,
+    (0b000, 0b0000001): lambda a, b: a * b,
+    (0b001, 0b0000001): lambda a, b: signed(a) * signed(b) >> 32,
+    (0b010, 0b0000001): lambda a, b: signed(a) * b >> 32,
+    (0b011, 0b0000001): lambda a, b: a * b >> 32,
+    (0b100, 0b0000001): lambda a, b: quotient(signed(a), signed(b)) if b else MASK,
+    (0b101, 0b0000001): lambda a, b: a // b if b else MASK,
+    (0b110, 0b0000001): lambda a, b: signed(a) - signed(b) * quotient(signed(a), signed(b)) if b else a,
+    (0b111, 0b0000001): lambda a, b: a % b if b else a,
 }
+
+# The funct7 of multiplications and divisions, which have no form with an immediate.
+MULTIPLY = 0b0000001
 
 BRANCHES = {
     0b000: lambda a, b: a == b,
@@ -399,10 +416,10 @@ class Hart:
                 row, operand = (funct3, funct7), rs2
             else:
                 row, operand = (funct3, 0), i_immediate(word) & MASK
-            if row not in ARITHMETIC:
+            if row not in ARITHMETIC or row[1] == MULTIPLY:
                 raise illegal
             result = ARITHMETIC[row](a, operand)
-        elif opcode == 0b0110011:  # ADD to AND
+        elif opcode == 0b0110011:  # ADD to REMU
             if (funct3, funct7) not in ARITHMETIC:
                 raise illegal
             result = ARITHMETIC[funct3, funct7](a, b)

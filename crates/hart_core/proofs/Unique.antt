@@ -19,13 +19,13 @@ no_value a o none some = cc
 pub one_found : (image : ImageView) (pc : ℕ) (a b : Found) → IsFound image pc a → IsFound image pc b → a ≡ b
 one_found image pc NoWord NoWord f g = refl
 one_found image pc NoWord (NoInstr v) f g = absurd (no_value v _ f g.0)
-one_found image pc NoWord (This j) f g = absurd (no_value (word_of j) _ f g.0)
+one_found image pc NoWord (This j) f g = absurd (no_value (word_of j) _ f g)
 one_found image pc (NoInstr w) NoWord f g = absurd (no_value w _ g f.0)
 one_found image pc (NoInstr w) (NoInstr v) f g = ap NoInstr (same_value w v (sym f.0 ∙ g.0))
-one_found image pc (NoInstr w) (This j) f g = absurd (f.1 j g.1 (same_value (word_of j) w (sym g.0 ∙ f.0)))
-one_found image pc (This i) NoWord f g = absurd (no_value (word_of i) _ g f.0)
-one_found image pc (This i) (NoInstr v) f g = absurd (g.1 i f.1 (same_value (word_of i) v (sym f.0 ∙ g.0)))
-one_found image pc (This i) (This j) f g = ap This (one_word i j (same_value (word_of i) (word_of j) (sym f.0 ∙ g.0)))
+one_found image pc (NoInstr w) (This j) f g = absurd (f.1 j (same_value (word_of j) w (sym g ∙ f.0)))
+one_found image pc (This i) NoWord f g = absurd (no_value (word_of i) _ g f)
+one_found image pc (This i) (NoInstr v) f g = absurd (g.1 i (same_value (word_of i) v (sym f ∙ g.0)))
+one_found image pc (This i) (This j) f g = ap This (one_word i j (same_value (word_of i) (word_of j) (sym f ∙ g)))
 
 -- two needs of a hart are one
 pub one_need : (image : ImageView) (t : Topology) (h : HartState) (a b : Need) → Needs image t h a → Needs image t h b → a ≡ b

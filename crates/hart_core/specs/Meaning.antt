@@ -1,5 +1,5 @@
 -- The meaning of an instruction: what it needs, and what becomes of the hart when it is answered.
-use Rattle.std.specs.Prelude.{◌≡◌, ℕ, ◌+◌, ◌-◌, ◌%◌, ◌^◌, ◌<◌, ◌==◌, ◌&&◌, Bool, true, false, not, if◌then◌else◌, Option, Some, None, IsTrue}
+use Rattle.std.specs.Prelude.{◌≡◌, ℕ, ◌+◌, ◌-◌, ◌%◌, ◌^◌, ◌<◌, ◌==◌, ◌&&◌, Bool, true, false, not, if◌then◌else◌, Option, Some, None}
 use Rattle.dash_base.specs.Words.{has_byte}
 use Rattle.dash_base.specs.declared.end.End.{End}
 use Rattle.dash_base.specs.declared.end.End.TheVariants.{Exited, Trapped}
@@ -10,7 +10,6 @@ use Rattle.dash_base.specs.declared.instr.Instr.TheVariants as instr
 use Rattle.dash_base.specs.declared.topology.Topology.{Topology}
 use Rattle.elf_load.specs.Image.{ImageView, fetched}
 use Rattle.rv32_decode.specs.Layout.{word_of}
-use Rattle.rv32_decode.specs.Served.{is_served}
 use Rattle.rv32_decode.specs.Decoding.{IsDecoding}
 use Rattle.rv32_decode.specs.Hints.{hint_of}
 use Rattle.rv32_decode.specs.declared.prefetch.Hint.{Hint}
@@ -26,12 +25,7 @@ use Rattle.hart_core.specs.Access.{load_width, store_width, load_need, store_nee
 abbrev pub IsFound : ImageView → ℕ → Found → Type 0
 IsFound image pc NoWord = fetched image pc ≡ None
 IsFound image pc (NoInstr word) = (fetched image pc ≡ Some word) × IsDecoding word None
-IsFound image pc (This i) = (fetched image pc ≡ Some (word_of i)) × IsTrue (is_served i)
-
--- what was found is no instruction, or one that is served
-abbrev pub IsServed : Found → Type 0
-IsServed (This i) = IsTrue (is_served i)
-IsServed _ = Unit {0}
+IsFound image pc (This i) = fetched image pc ≡ Some (word_of i)
 
 -- the address of the next instruction in line
 abbrev pub following : HartState → ℕ

@@ -124,7 +124,7 @@ impl Hart {
     ghost use Rattle.std.specs.Prelude.{◌≡◌};
     ghost use Rattle.hart_core.specs.HartState.{can_go_on};
     ghost use Rattle.hart_core.specs.Access.{IsProper};
-    ghost use Rattle.hart_core.specs.Meaning.{IsFound, IsServed, need_at};
+    ghost use Rattle.hart_core.specs.Meaning.{IsFound, need_at};
 
     /// Whether it has not ended and has instructions left to retire.
     fn can_go_on(&self, topology: &Topology) -> bool
@@ -135,8 +135,7 @@ impl Hart {
 
     /// What stands at its pc.
     fn find(&self, image: &Image) -> Found
-        ensures found { IsFound image.now self.now.pc result }
-        ensures served { IsServed result }
+        ensures { IsFound image.now self.now.pc result }
     {
         match image.fetch(self.pc) {
             None => Found::NoWord,
@@ -149,7 +148,6 @@ impl Hart {
 
     /// What it needs where this stands at its pc.
     fn need_at(&self, image: &Image, topology: &Topology, found: &Found) -> Need
-        requires { IsServed found.now }
         ensures need { result ≡ need_at image.now topology.now self.now found.now }
         ensures proper { IsProper topology.now result }
     {
@@ -163,16 +161,14 @@ impl Hart {
 
 impl Hart {
     ghost use Rattle.std.specs.Prelude.{◌≡◌, ◌+◌, ◌<◌, ◌^◌, IsTrue};
-    ghost use Rattle.rv32_decode.specs.Served.{is_served};
     ghost use Rattle.hart_core.specs.HartState.{reg, with_register, retired_to};
     ghost use Rattle.rv32_alu.specs.Arithmetic.{moved_by};
     ghost use Rattle.hart_core.specs.Access.{IsProper};
-    ghost use Rattle.hart_core.specs.Meaning.{IsServed, instr_need, call_need, next_pc, following, performed, with_result, ended, after_need};
+    ghost use Rattle.hart_core.specs.Meaning.{instr_need, call_need, next_pc, following, performed, with_result, ended, after_need};
 
     /// Does what it needed, with this answer.
     fn answer(&mut self, found: &Found, need: &Need, answer: u32)
-        requires served { IsServed found.now }
-        requires room { self.old.retired + 1 < 2 ^ 32 }
+        requires { self.old.retired + 1 < 2 ^ 32 }
         ensures { self.new ≡ after_need self.old found.now need.now answer }
     {
         match need {
@@ -262,8 +258,7 @@ impl Hart {
 
     /// Does an instruction that doesn't end it.
     fn perform(&mut self, instr: &Instr, answer: u32)
-        requires served { IsTrue (is_served instr.now) }
-        requires room { self.old.retired + 1 < 2 ^ 32 }
+        requires { self.old.retired + 1 < 2 ^ 32 }
         ensures { self.new ≡ performed self.old instr.now answer }
     {
         let target = self.next_pc(instr);
@@ -273,7 +268,6 @@ impl Hart {
 
     /// Writes an instruction's destination register.
     fn write_result(&mut self, instr: &Instr, answer: u32)
-        requires { IsTrue (is_served instr.now) }
         ensures { self.new ≡ with_result self.old instr.now answer }
     {
         match instr {

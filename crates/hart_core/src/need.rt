@@ -8,7 +8,7 @@ use rv32_decode::HintKind;
 pub enum Found {
     /// Its four bytes are not all in one executable segment.
     NoWord,
-    /// A word that is no instruction that is served.
+    /// A word that is no instruction.
     NoInstr(u32),
     This(Instr),
 }

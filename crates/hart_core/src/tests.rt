@@ -217,7 +217,7 @@ fn each_trap(rt: HostRuntime) -> Result<(), Fail> {
         (code, 0x0000_0073, Trap::BadCall, 0), // ecall
         (code, 0x0010_0073, Trap::Break, 0), // ebreak
         (code, 0x0000_0000, Trap::Illegal, 0),
-        (code, 0x02a3_0333, Trap::Illegal, 0x02a3_0333), // mul t1,t1,a0, not served
+        (code, 0x0400_0033, Trap::Illegal, 0x0400_0033), // funct7 2
         (code, 0x0804_0067, Trap::Fetch, 0x1_0080), // jalr zero,128(s0)
     ];
     let topology = Topology::simple(1, 1, 3).expect(&rt, "a topology");

@@ -1,5 +1,5 @@
--- The value of an operation on two words, whether a branch is taken, and what an atomic operation writes (RISC-V unprivileged manual, "Integer Computational Instructions", "Conditional Branches" and "Atomic Memory Operations").
-use Rattle.std.specs.Prelude.{ℕ, ◌+◌, ◌-◌, ◌*◌, ◌/◌, ◌%◌, ◌^◌, ◌==◌, Bool, true, false, not, nat_lt, int_lt, if◌then◌else◌, bit_and, bit_or, bit_xor, ℤ}
+-- The value of an operation on two words, whether a branch is taken, and what an atomic operation writes (RISC-V unprivileged manual, "Integer Computational Instructions", "Multiplication Operations", "Division Operations", "Conditional Branches" and "Atomic Memory Operations").
+use Rattle.std.specs.Prelude.{ℕ, ◌+◌, ◌-◌, ◌*◌, ◌/◌, ◌%◌, ◌^◌, ◌==◌, ◌&&◌, Bool, true, false, not, nat_lt, int_lt, if◌then◌else◌, bit_and, bit_or, bit_xor, ℤ, pos, ◌*ℤ◌, int_div, int_rem}
 use Rattle.std.specs.Int.{w32, cast_signed, cast_unsigned, int_shr}
 use Rattle.dash_base.specs.declared.ops.AluOp.{AluOp}
 use Rattle.dash_base.specs.declared.ops.AluOp.TheVariants as alu
@@ -23,7 +23,28 @@ bit_of b = if b then 1 else 0
 abbrev pub moved_by : ℕ → ℤ → ℕ
 moved_by a z = (a + cast_unsigned w32 z) % 2 ^ 32
 
--- the operations of the base set; those of the M extension are not served yet
+-- the upper half of a product of two words: bits 32 to 63 of its two's complement, which are the product divided by 2 ^ 32, rounded down
+abbrev pub upper_half : ℤ → ℕ
+upper_half product = cast_unsigned w32 (int_shr product 32)
+
+-- the least signed number by -1, whose quotient is no signed number of 32 bits
+abbrev pub overflows : ℕ → ℕ → Bool
+overflows a b = (a == 2 ^ 31) && (b == 2 ^ 32 - 1)
+
+-- the quotient rounded towards zero; all bits set where the divisor is 0, and the dividend on overflow
+abbrev pub quotient : ℕ → ℕ → ℕ
+quotient a b =
+    if b == 0 then 2 ^ 32 - 1
+    else (if overflows a b then 2 ^ 31
+    else cast_unsigned w32 (int_div (signed a) (signed b)))
+
+-- the remainder, with the sign of the dividend; the dividend where the divisor is 0, and 0 on overflow
+abbrev pub remainder : ℕ → ℕ → ℕ
+remainder a b =
+    if b == 0 then a
+    else (if overflows a b then 0
+    else cast_unsigned w32 (int_rem (signed a) (signed b)))
+
 abbrev pub alu_value : AluOp → ℕ → ℕ → ℕ
 alu_value alu.Add a b = (a + b) % 2 ^ 32
 alu_value alu.Sub a b = (a + (2 ^ 32 - b)) % 2 ^ 32
@@ -35,7 +56,14 @@ alu_value alu.Srl a b = a / 2 ^ (b % 32)
 alu_value alu.Sra a b = cast_unsigned w32 (int_shr (signed a) (b % 32))
 alu_value alu.Or a b = bit_or a b
 alu_value alu.And a b = bit_and a b
-alu_value _ a b = 0
+alu_value alu.Mul a b = a * b % 2 ^ 32
+alu_value alu.Mulh a b = upper_half (signed a *ℤ signed b)
+alu_value alu.Mulhsu a b = upper_half (signed a *ℤ pos b)
+alu_value alu.Mulhu a b = a * b / 2 ^ 32
+alu_value alu.Div a b = quotient a b
+alu_value alu.Divu a b = if b == 0 then 2 ^ 32 - 1 else a / b
+alu_value alu.Rem a b = remainder a b
+alu_value alu.Remu a b = if b == 0 then a else a % b
 
 abbrev pub is_taken : BranchOp → ℕ → ℕ → Bool
 is_taken branch.Beq a b = a == b

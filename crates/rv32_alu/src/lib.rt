@@ -2,15 +2,19 @@
 #![tactic(auto)]
 
 ghost use Rattle.std.specs.Prelude.{◌≡◌, IsTrue};
-ghost use Rattle.dash_base.specs.Operations.{is_base};
 ghost use Rattle.rv32_alu.specs.Arithmetic.{alu_value, is_amo, amo_value, is_taken};
 
 pub use dash_base::{AluOp, AmoOp, BranchOp};
+use product::{mulh, mulhsu, mulhu};
+use quotient::{div, divu, rem, remu};
 
-/// The value of an operation of the base set on two words. Sums wrap, and shifts use the low five
-/// bits of `b`.
+pub mod laws;
+mod product;
+mod quotient;
+
+/// The value of an operation on two words. Sums and products wrap, and shifts use the low five bits
+/// of `b`.
 pub fn alu(op: AluOp, a: u32, b: u32) -> u32
-    requires { IsTrue (is_base op) }
     ensures { result ≡ alu_value op a b }
 {
     match op {
@@ -24,7 +28,14 @@ pub fn alu(op: AluOp, a: u32, b: u32) -> u32
         AluOp::Sra => a.cast_signed().wrapping_shr(b).cast_unsigned(),
         AluOp::Or => a | b,
         AluOp::And => a & b,
-        _ => unreachable!(),
+        AluOp::Mul => a.wrapping_mul(b),
+        AluOp::Mulh => mulh(a, b),
+        AluOp::Mulhsu => mulhsu(a, b),
+        AluOp::Mulhu => mulhu(a, b),
+        AluOp::Div => div(a, b),
+        AluOp::Divu => divu(a, b),
+        AluOp::Rem => rem(a, b),
+        AluOp::Remu => remu(a, b),
     }
 }
 

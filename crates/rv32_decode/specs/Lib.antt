@@ -1,4 +1,3 @@
 pub mod Layout
-pub mod Served
 pub mod Decoding
 pub mod Hints

@@ -188,7 +188,7 @@ pub fn fence(word: u32) -> Option<Instr>
     }
 }
 
-/// ECALL and EBREAK, the only two words of their opcode that are served.
+/// ECALL and EBREAK, the only two words of their opcode that are instructions of RV32IMA.
 pub fn system(word: u32) -> Option<Instr>
     requires { bits_from 0 7 word ≡ 0b1110011 }
     ensures { IsDecoding word result }

@@ -4,11 +4,10 @@
 //! in `specs/Layout.antt`.
 #![tactic(auto)]
 
-ghost use Rattle.std.specs.Prelude.{◌≡◌, IfSome, IsTrue};
+ghost use Rattle.std.specs.Prelude.{◌≡◌, IfSome};
 ghost use Rattle.dash_base.specs.declared.instr.Instr.{Instr};
 ghost use Rattle.rv32_decode.specs.Decoding.{IsDecoding};
 ghost use Rattle.rv32_decode.specs.Layout.{word_of};
-ghost use Rattle.rv32_decode.specs.Served.{is_served};
 
 pub use dash_base::{AluOp, AmoOp, BranchOp, Instr, LoadOp, StoreOp};
 use fields::bits;
@@ -22,11 +21,10 @@ pub mod laws;
 mod prefetch;
 mod tables;
 
-/// The instruction that has this word. None where none has it, or none that is served.
+/// The instruction that has this word, or None where none has it.
 pub fn decode(word: u32) -> Option<Instr>
     ensures some { IfSome result (λ i. word_of i ≡ word) }
-    ensures served { IfSome result (λ i. IsTrue (is_served i)) }
-    ensures only { (i : Instr) → IsTrue (is_served i) → word_of i ≡ word → result ≡ Some i }
+    ensures only { (i : Instr) → word_of i ≡ word → result ≡ Some i }
 {
     row(word)
 }

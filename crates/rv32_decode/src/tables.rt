@@ -8,7 +8,6 @@ ghost use Rattle.dash_base.specs.declared.ops.LoadOp.{LoadOp};
 ghost use Rattle.dash_base.specs.declared.ops.StoreOp.{StoreOp};
 ghost use Rattle.rv32_decode.specs.Layout.{alu_funct3, alu_funct7, amo_funct5, is_shift};
 ghost use Rattle.rv32_decode.specs.Layout.{branch_funct3, load_funct3, store_funct3};
-ghost use Rattle.dash_base.specs.Operations.{is_base};
 
 use dash_base::{AluOp, AmoOp, BranchOp, LoadOp, StoreOp};
 
@@ -95,9 +94,7 @@ pub fn shift_op(funct3: u32, funct7: u32) -> Option<AluOp>
 pub fn alu_op(funct7: u32, funct3: u32) -> Option<AluOp>
     ensures funct7 { IfSome result (λ op. alu_funct7 op ≡ funct7) }
     ensures funct3 { IfSome result (λ op. alu_funct3 op ≡ funct3) }
-    ensures served { IfSome result (λ op. IsTrue (is_base op)) }
-    ensures none { IfNone result ((op : AluOp) → IsTrue (is_base op) → alu_funct7 op ≡ funct7
-        → alu_funct3 op ≢ funct3) }
+    ensures none { IfNone result ((op : AluOp) → alu_funct7 op ≡ funct7 → alu_funct3 op ≢ funct3) }
 {
     match (funct7, funct3) {
         (0b0000000, 0b000) => Some(AluOp::Add),
@@ -110,6 +107,14 @@ pub fn alu_op(funct7: u32, funct3: u32) -> Option<AluOp>
         (0b0100000, 0b101) => Some(AluOp::Sra),
         (0b0000000, 0b110) => Some(AluOp::Or),
         (0b0000000, 0b111) => Some(AluOp::And),
+        (0b0000001, 0b000) => Some(AluOp::Mul),
+        (0b0000001, 0b001) => Some(AluOp::Mulh),
+        (0b0000001, 0b010) => Some(AluOp::Mulhsu),
+        (0b0000001, 0b011) => Some(AluOp::Mulhu),
+        (0b0000001, 0b100) => Some(AluOp::Div),
+        (0b0000001, 0b101) => Some(AluOp::Divu),
+        (0b0000001, 0b110) => Some(AluOp::Rem),
+        (0b0000001, 0b111) => Some(AluOp::Remu),
         _ => None,
     }
 }

@@ -1,4 +1,4 @@
-//! Words as GNU as makes them, and words that objdump refuses or that are not served.
+//! Words as GNU as makes them, and words that objdump refuses or that are of no RV32IMA instruction.
 use super::*;
 use dash_base::{Branch, Jal, Jalr, Labels, Load, Op, OpImm, Store, Upper};
 
@@ -78,6 +78,78 @@ fn words_of_the_assembler(rt: HostRuntime) {
             }),
         ),
         (
+            0x02C58533,
+            Instr::Op(Op {
+                op: AluOp::Mul,
+                rd: 10,
+                rs1: 11,
+                rs2: 12,
+            }),
+        ),
+        (
+            0x027312B3,
+            Instr::Op(Op {
+                op: AluOp::Mulh,
+                rd: 5,
+                rs1: 6,
+                rs2: 7,
+            }),
+        ),
+        (
+            0x0324A433,
+            Instr::Op(Op {
+                op: AluOp::Mulhsu,
+                rd: 8,
+                rs1: 9,
+                rs2: 18,
+            }),
+        ),
+        (
+            0x02F736B3,
+            Instr::Op(Op {
+                op: AluOp::Mulhu,
+                rd: 13,
+                rs1: 14,
+                rs2: 15,
+            }),
+        ),
+        (
+            0x03EECE33,
+            Instr::Op(Op {
+                op: AluOp::Div,
+                rd: 28,
+                rs1: 29,
+                rs2: 30,
+            }),
+        ),
+        (
+            0x0220DFB3,
+            Instr::Op(Op {
+                op: AluOp::Divu,
+                rd: 31,
+                rs1: 1,
+                rs2: 2,
+            }),
+        ),
+        (
+            0x023160B3,
+            Instr::Op(Op {
+                op: AluOp::Rem,
+                rd: 1,
+                rs1: 2,
+                rs2: 3,
+            }),
+        ),
+        (
+            0x03EFF033,
+            Instr::Op(Op {
+                op: AluOp::Remu,
+                rd: 0,
+                rs1: 31,
+                rs2: 30,
+            }),
+        ),
+        (
             0x000800B7,
             Instr::Lui(Upper {
                 rd: 1,
@@ -152,7 +224,7 @@ fn words_of_the_assembler(rt: HostRuntime) {
 }
 
 #[test]
-fn words_of_no_served_instruction(rt: HostRuntime) {
+fn words_of_no_instruction(rt: HostRuntime) {
     let words = [
         0x0000_0000, // no instruction
         0xFFFF_FFFF, // no instruction
@@ -166,7 +238,7 @@ fn words_of_no_served_instruction(rt: HostRuntime) {
         0x1415_22AF, // LR.W with a source
         0x1405_32AF, // LR.D
         0x4865_22AF, // AMO with funct5 9
-        0x02A3_0333, // MUL
+        0x0400_0033, // funct7 2
         0x0000_100F, // FENCE.I
     ];
     for word in words {
