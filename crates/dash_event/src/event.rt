@@ -2,6 +2,7 @@
 
 use crate::access::Access;
 use dash_base::{ClusterId, End, HartId, LineId};
+use dash_msg::Msg;
 
 /// What happened.
 #[derive(Clone, Copy, Debug, PartialEq, Eq)]
@@ -39,9 +40,17 @@ pub enum Kind {
         access: Access,
         level: u32,
     },
-    /// A store retired.
+    /// A store retired into its hart's write buffer.
     Store {
         access: Access,
+    },
+    /// The oldest store of a hart's write buffer, which was its instruction of this number, left the
+    /// buffer and became this version of its line.
+    Commit {
+        hart: HartId,
+        number: u32,
+        line: LineId,
+        version: u64,
     },
     /// An atomic read-modify-write, or an SC that succeeds, committed this version of its line.
     Rmw {
@@ -53,6 +62,44 @@ pub enum Kind {
     ScFail {
         access: Access,
     },
+    /// A hart sent the message of its lock instruction.
+    LockSend {
+        hart: HartId,
+        msg: Msg,
+    },
+    /// A hart took a copy of the line from another hart of its cluster.
+    BusRead {
+        hart: HartId,
+        line: LineId,
+    },
+    /// A hart took the line from the owner in its cluster, and owns it.
+    BusOwn {
+        hart: HartId,
+        line: LineId,
+    },
+    /// A hart gave the line up, to make room.
+    Evict {
+        hart: HartId,
+        line: LineId,
+    },
+    /// A request slot asked the line's home for a copy, or to own the line.
+    Ask {
+        slot: u32,
+        hart: HartId,
+        line: LineId,
+        own: bool,
+    },
+    /// A request slot that was refused asked again.
+    Again {
+        slot: u32,
+        line: LineId,
+    },
+    /// The line that came to a request slot entered the hart's caches.
+    Install {
+        slot: u32,
+        hart: HartId,
+        line: LineId,
+    },
     /// A lock word was granted to a hart that had asked for it.
     Grant {
         access: Access,
@@ -62,10 +109,15 @@ pub enum Kind {
         from: ClusterId,
         access: Access,
     },
+    /// A message from a cluster was taken from its lane.
+    Take {
+        from: ClusterId,
+        msg: Msg,
+    },
 }
 
 /// What happened in a cluster, and when: the stamps of a cluster's events rise, and the stamp of an
-/// event is above that of each event that it follows from in another cluster.
+/// event that takes a message is above that of the event that sent it.
 #[derive(Clone, Copy, Debug, PartialEq, Eq)]
 pub struct Event {
     pub stamp: u64,

@@ -6,8 +6,10 @@
 
 pub use access::{Access, Op, Seen};
 pub use event::{Event, Kind};
+pub use logged::{EventLog, Logged};
 pub use step_record::StepRecord;
 
 mod access;
 mod event;
+mod logged;
 mod step_record;
