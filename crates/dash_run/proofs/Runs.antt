@@ -1,5 +1,5 @@
 -- What a log records: a sequential run; and a plain run is one.
-use Rattle.std.proofs.Common.{◌*◌, ◌/◌, ◌≤◌, ◌≡◌, ℕ, ◌+◌, Bool, true, false, List, [], ◌∷◌, ◌++◌, refl, sym, ◌∙◌, ap, subst, ◌<◌, ◌%◌, ◌⊎◌, inl, inr, zero, suc, length, arith, mod-lt, slice_get, Some}
+use Rattle.std.proofs.Common.{◌*◌, ◌/◌, ◌≤◌, ◌≡◌, ℕ, ◌+◌, Bool, true, false, List, [], ◌∷◌, ◌++◌, refl, sym, ◌∙◌, ap, subst, ◌<◌, ◌%◌, ◌⊎◌, inl, inr, zero, suc, length, map, arith, mod-lt, slice_get, Some, append_assoc, append-nil}
 use mathlib.Core.HLevel.{is_prop→PathP}
 use Rattle.std.proofs.Props.{props}
 use Rattle.std.specs.Int.{IsPowerOfTwo}
@@ -9,7 +9,9 @@ use Rattle.dash_base.specs.declared.ops.AmoOp.TheVariants.{Sc}
 use Rattle.dash_base.specs.declared.topology.Topology.{Topology}
 use Rattle.elf_load.specs.Image.{ImageView}
 use Rattle.elf_load.specs.Loader.{image_of}
+use Rattle.dash_event.specs.declared.access.Access.{Access}
 use Rattle.dash_event.specs.declared.event.Event.{Event}
+use Rattle.dash_event.specs.Records.{unseen, accesses_in, accesses_of, records_in, records_of}
 use Rattle.dash_event.specs.declared.step_record.StepRecord.{StepRecord}
 use Rattle.dash_event.specs.declared.event.Kind.{Kind}
 use Rattle.dash_event.specs.declared.event.Kind.TheVariants as kind
@@ -28,31 +30,32 @@ use Rattle.flat_model.specs.FlatEnd as flat
 use Rattle.flat_model.proofs.DrivenRuns.{driven_run, one_eager_step}
 use Rattle.flat_model.proofs.Steps.{no_step_of}
 use Rattle.dash_run.specs.CommandLine.{Request}
-use Rattle.dash_run.specs.Log.{accesses_in, accesses_of, IsLogged, opens, passes, steps, event_of, kind_of, record_of_kind, records_of, IsPlainRun}
+use Rattle.dash_run.specs.Log.{IsLogged, opens, passes, steps, event_of, kind_of, IsPlainRun}
 use Rattle.dash_run.specs.Outcome.{IsReported}
 use Rattle.dash_run.specs.Report.{report_of, status_of}
 use Rattle.dash_run.proofs.Turns.{rotation-more, some_harts}
 
 -- the event of a step has the step's record
-record_of_kind-kind_of : (t : Topology) (h n pc : ℕ) (need : Need) (old : ℕ) (ok : Bool)
-    → record_of_kind (kind_of t (record { 0 = h }) pc need (record_of h need (offered h n need old ok))) ≡ record_of h need (offered h n need old ok)
-record_of_kind-kind_of t h n pc (Load w m l true) old ok = refl
-record_of_kind-kind_of t h n pc (Load w m l false) old ok = refl
-record_of_kind-kind_of t h n pc (Rmw w Sc x l) old true = refl
-record_of_kind-kind_of t h n pc (Rmw w Sc x l) old false = refl
-record_of_kind-kind_of t h n pc (Rmw w amo x l) old ok = refl
-record_of_kind-kind_of t h n pc need old ok = refl
+records_in-kind_of : (t : Topology) (h n pc : ℕ) (need : Need) (old : ℕ) (ok : Bool)
+    → records_in (kind_of t (record { 0 = h }) pc need (record_of h need (offered h n need old ok))) ≡ record_of h need (offered h n need old ok) ∷ []
+records_in-kind_of t h n pc (Load w m l true) old ok = refl
+records_in-kind_of t h n pc (Load w m l false) old ok = refl
+records_in-kind_of t h n pc (Rmw w Sc x l) old true = refl
+records_in-kind_of t h n pc (Rmw w Sc x l) old false = refl
+records_in-kind_of t h n pc (Rmw w amo x l) old ok = refl
+records_in-kind_of t h n pc need old ok = refl
 
 record_is : (image : ImageView) (t : Topology) (s : FlatState) (h pc : ℕ) (r : StepRecord) (new : FlatState) → (does : driven.IsEagerStep image t s h r new)
-    → record_of_kind (kind_of t (record { 0 = h }) pc does.step.need r) ≡ r
+    → records_in (kind_of t (record { 0 = h }) pc does.step.need r) ≡ r ∷ []
 record_is image t s h pc r new does =
-    subst (λ x. record_of_kind (kind_of t (record { 0 = h }) pc does.step.need x) ≡ x) (sym does.step.recorded)
-    (record_of_kind-kind_of t h ((s.harts h).retired + 1) pc does.step.need (content s does.step.need) does.step.succeeds)
+    subst (λ x. records_in (kind_of t (record { 0 = h }) pc does.step.need x) ≡ x ∷ []) (sym does.step.recorded)
+    (records_in-kind_of t h ((s.harts h).retired + 1) pc does.step.need (content s does.step.need) does.step.succeeds)
 
 -- the records of a log with one more event
-records_of-more : (log : List Event) (e : Event) → records_of (log ++ e ∷ []) ≡ records_of log ++ record_of_kind e.kind ∷ []
-records_of-more [] e = refl
-records_of-more (x ∷ log) e = ap (λ rs. record_of_kind x.kind ∷ rs) (records_of-more log e)
+records_of-more : (log : List Event) (e : Event) → records_of (log ++ e ∷ []) ≡ records_of log ++ records_in e.kind
+records_of-more [] e = append-nil (records_in e.kind)
+records_of-more (x ∷ log) e =
+    ap (λ rs. records_in x.kind ++ rs) (records_of-more log e) ∙ sym (append_assoc (records_in x.kind) (records_of log) (records_in e.kind))
 
 pub logged_driven : (image : ImageView) (t : Topology) (hs : List ℕ) (log : List Event) (s : FlatState) → IsLogged image t hs log s
     → driven.IsDriven image t hs (records_of log) s
@@ -61,7 +64,7 @@ logged_driven image t _ _ _ (passes {hs} {log} {s} h logged idle) = driven.passe
 logged_driven image t _ _ _ (steps {hs} {log} {s} h r new logged does) =
     let is = record_is image t s h (s.harts h).pc r new does in
     subst (λ rs. driven.IsDriven image t (hs ++ h ∷ []) rs new)
-    (sym (records_of-more log (event_of t _ (record { 0 = h }) (s.harts h).pc does.step.need r) ∙ ap (λ x. records_of log ++ x ∷ []) is))
+    (sym (records_of-more log (event_of t _ (record { 0 = h }) (s.harts h).pc does.step.need r) ∙ ap (λ rs. records_of log ++ rs) is))
     (driven.steps h r new (logged_driven image t hs log s logged) does)
 
 pub plain_complete : (image : ImageView) (t : Topology) (log : List Event) (final : FlatState) → IsPlainRun image t log final
@@ -71,24 +74,37 @@ plain_complete image t log final run = record {
   stands = run.stands;
 }
 
--- what happened has the access of its record
-accesses_in-record_of_kind : (k : Kind) → accesses_in k ≡ flat.access_of (record_of_kind k)
-accesses_in-record_of_kind (kind.Alu h pc) = refl
-accesses_in-record_of_kind (kind.Fence h pc) = refl
-accesses_in-record_of_kind (kind.Hint h pc slot) = refl
-accesses_in-record_of_kind (kind.Put h pc byte) = refl
-accesses_in-record_of_kind (kind.Stop h pc end) = refl
-accesses_in-record_of_kind (kind.Load a level) = refl
-accesses_in-record_of_kind (kind.Store a) = refl
-accesses_in-record_of_kind (kind.Rmw a line version) = refl
-accesses_in-record_of_kind (kind.ScFail a) = refl
-accesses_in-record_of_kind (kind.Grant a) = refl
-accesses_in-record_of_kind (kind.Free from a) = refl
+-- what happened has the access of its record, but for what it was shown
+accesses_in-records_in : (k : Kind) → map unseen (accesses_in k) ≡ flat.accesses_of (records_in k)
+accesses_in-records_in (kind.Alu h pc) = refl
+accesses_in-records_in (kind.Fence h pc) = refl
+accesses_in-records_in (kind.Hint h pc slot) = refl
+accesses_in-records_in (kind.Put h pc byte) = refl
+accesses_in-records_in (kind.Stop h pc end) = refl
+accesses_in-records_in (kind.Load a level) = refl
+accesses_in-records_in (kind.Store a) = refl
+accesses_in-records_in (kind.Rmw a line version) = refl
+accesses_in-records_in (kind.ScFail a) = refl
+accesses_in-records_in (kind.Grant a) = refl
+accesses_in-records_in (kind.Free from a) = refl
+accesses_in-records_in k = refl
 
-pub accesses_of-records_of : (log : List Event) → accesses_of log ≡ flat.accesses_of (records_of log)
+accesses_of-append : (rs ss : List StepRecord) → flat.accesses_of (rs ++ ss) ≡ flat.accesses_of rs ++ flat.accesses_of ss
+accesses_of-append [] ss = refl
+accesses_of-append (r ∷ rs) ss =
+    ap (λ xs. flat.access_of r ++ xs) (accesses_of-append rs ss) ∙ sym (append_assoc (flat.access_of r) (flat.accesses_of rs) (flat.accesses_of ss))
+
+unseen-append : (xs ys : List Access) → map unseen (xs ++ ys) ≡ map unseen xs ++ map unseen ys
+unseen-append [] ys = refl
+unseen-append (x ∷ xs) ys = ap (λ zs. unseen x ∷ zs) (unseen-append xs ys)
+
+pub accesses_of-records_of : (log : List Event) → map unseen (accesses_of log) ≡ flat.accesses_of (records_of log)
 accesses_of-records_of [] = refl
 accesses_of-records_of (e ∷ log) =
-    ap (λ xs. xs ++ accesses_of log) (accesses_in-record_of_kind e.kind) ∙ ap (λ xs. flat.access_of (record_of_kind e.kind) ++ xs) (accesses_of-records_of log)
+    unseen-append (accesses_in e.kind) (accesses_of log)
+    ∙ ap (λ xs. xs ++ map unseen (accesses_of log)) (accesses_in-records_in e.kind)
+    ∙ ap (λ xs. flat.accesses_of (records_in e.kind) ++ xs) (accesses_of-records_of log)
+    ∙ sym (accesses_of-append (records_in e.kind) (records_of log))
 
 -- a list that ends is not empty
 no_end : (xs : List ℕ) (x : ℕ) → ¬ ([] ≡ xs ++ x ∷ [])

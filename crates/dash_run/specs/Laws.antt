@@ -1,14 +1,15 @@
 -- Laws of the plain machine's log, in the words of the sequential machine. Each is the contract of a function of `laws`.
-use Rattle.std.specs.Prelude.{◌≡◌, ℕ, ◌+◌, List, Some, slice_get}
+use Rattle.std.specs.Prelude.{◌≡◌, ℕ, ◌+◌, List, map, Some, slice_get}
 use Rattle.dash_base.specs.declared.topology.Topology.{Topology}
 use Rattle.elf_load.specs.Image.{ImageView}
 use Rattle.dash_event.specs.declared.event.Event.{Event}
+use Rattle.dash_event.specs.Records.{unseen, accesses_of, records_of}
 use Rattle.flat_model.specs.State.{FlatState}
 use Rattle.flat_model.specs.Run.{IsCompleteRun}
 use Rattle.flat_model.specs.Driven.{IsDriven}
 use Rattle.flat_model.specs.FlatEnd as flat
 use Rattle.dash_run.specs.CommandLine.{Request}
-use Rattle.dash_run.specs.Log.{IsLogged, IsPlainRun, records_of, accesses_of}
+use Rattle.dash_run.specs.Log.{IsLogged, IsPlainRun}
 use Rattle.dash_run.specs.Outcome.{IsReported}
 
 -- the records of a log are those of the run that takes the same harts in order
@@ -22,9 +23,9 @@ PlainRunIsComplete =
     (image : ImageView) (t : Topology) (log : List Event) (final : FlatState) → IsPlainRun image t log final
     → IsCompleteRun image t (records_of log) final
 
--- the accesses of a log, which the report prints, are those of its records, in their order
+-- the accesses of a log, which the report prints, are those of its records in their order, but for what they were shown
 abbrev pub PrintedAccessesAreTheRecords : Type 0
-PrintedAccessesAreTheRecords = (log : List Event) → accesses_of log ≡ flat.accesses_of (records_of log)
+PrintedAccessesAreTheRecords = (log : List Event) → map unseen (accesses_of log) ≡ flat.accesses_of (records_of log)
 
 -- a plain run of an image is one: its log and its final state do not depend on when it is seen to have ended
 abbrev pub OnePlainRun : Type 0

@@ -1,5 +1,5 @@
 -- The log of the plain machine, which takes the harts in rotation over one flat memory: an event for each step.
-use Rattle.std.specs.Prelude.{ℕ, ◌+◌, ◌-◌, ◌/◌, ◌<◌, List, [], ◌∷◌, ◌++◌, length, map, flat_map, Option, Some, None}
+use Rattle.std.specs.Prelude.{ℕ, ◌+◌, ◌-◌, ◌/◌, ◌<◌, List, [], ◌∷◌, ◌++◌, length, Option, Some, None}
 use Rattle.dash_base.specs.declared.id.ClusterId.{ClusterId}
 use Rattle.dash_base.specs.declared.id.HartId.{HartId}
 use Rattle.dash_base.specs.declared.id.LineId.{LineId}
@@ -75,35 +75,3 @@ pub record IsPlainRun (image : ImageView) (t : Topology) (log : List Event) (fin
   pub turns : ℕ
   pub logged : IsLogged image t (rotation (hart_count t) turns) log final
   pub stands : (h : ℕ) → h < hart_count t → IsStanding image t final h
-
--- the record of an event at its order point: a store stands where it retires, an atomic operation where it commits, and a lock word's access where it is served
-abbrev pub record_of_kind : Kind → StepRecord
-record_of_kind (kind.Alu hart pc) = step.Plain hart
-record_of_kind (kind.Fence hart pc) = step.Plain hart
-record_of_kind (kind.Hint hart pc slot) = step.Plain hart
-record_of_kind (kind.Put hart pc byte) = step.Byte hart byte
-record_of_kind (kind.Stop hart pc end) = step.Stopped hart end
-record_of_kind (kind.Load a level) = step.Access a
-record_of_kind (kind.Store a) = step.Access a
-record_of_kind (kind.Rmw a line version) = step.Access a
-record_of_kind (kind.ScFail a) = step.Access a
-record_of_kind (kind.Grant a) = step.Access a
-record_of_kind (kind.Free from a) = step.Access a
-
--- the records of a log, in its order
-abbrev pub records_of : List Event → List StepRecord
-records_of log = map (λ e. record_of_kind e.kind) log
-
--- the access of what happened, where it has one
-abbrev pub accesses_in : Kind → List Access
-accesses_in (kind.Load a level) = a ∷ []
-accesses_in (kind.Store a) = a ∷ []
-accesses_in (kind.Rmw a line version) = a ∷ []
-accesses_in (kind.ScFail a) = a ∷ []
-accesses_in (kind.Grant a) = a ∷ []
-accesses_in (kind.Free from a) = a ∷ []
-accesses_in k = []
-
--- the accesses of a log, in its order
-abbrev pub accesses_of : List Event → List Access
-accesses_of log = flat_map (λ e. accesses_in e.kind) log

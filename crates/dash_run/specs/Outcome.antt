@@ -10,6 +10,7 @@ use Rattle.dash_base.specs.declared.topology.Topology.{Topology}
 use Rattle.dash_base.specs.declared.topology.TopoRefusal.{TopoRefusal}
 use Rattle.dash_base.specs.declared.topology.TopoRefusal.TheVariants as topo
 use Rattle.dash_event.specs.declared.event.Event.{Event}
+use Rattle.dash_event.specs.Records.{records_of}
 use Rattle.elf_load.specs.Loader.{refusal_of, image_of}
 use Rattle.elf_load.specs.declared.memory_map.MemoryMap.{MemoryMap}
 use Rattle.elf_load.specs.declared.refusal.LoadRefusal.{LoadRefusal}
@@ -18,7 +19,7 @@ use Rattle.flat_model.specs.State.{FlatState}
 use Rattle.flat_model.specs.Run.{IsCompleteRun}
 use Rattle.flat_model.specs.Held.{harts_of}
 use Rattle.dash_run.specs.CommandLine.{Request, Asks, IsFormless}
-use Rattle.dash_run.specs.Log.{IsPlainRun, records_of}
+use Rattle.dash_run.specs.Log.{IsPlainRun}
 use Rattle.dash_run.specs.Report.{newline, report_of, status_of}
 
 -- an image file has at most so many bytes

@@ -16,7 +16,7 @@ use Rattle.dash_event.specs.declared.event.Event.{Event}
 use Rattle.hart_core.specs.HartState.{HartState, is_running}
 use Rattle.flat_model.specs.State.{FlatState}
 use Rattle.flat_model.specs.Held.{harts_of}
-use Rattle.dash_run.specs.Log.{accesses_of}
+use Rattle.dash_event.specs.Records.{accesses_of}
 
 abbrev pub is_trapped : End → Bool
 is_trapped (Trapped cause value) = true

@@ -1,6 +1,6 @@
 //! The text of accesses.
 ghost use Rattle.std.specs.Prelude.{◌≡◌, ◌++◌, ℕ, List, Option, length, flat_map, IfOk, OnOk, option_to_list, option_copied, string_bytes, codes};
-ghost use Rattle.dash_run.specs.Log.{accesses_in, accesses_of};
+ghost use Rattle.dash_event.specs.Records.{accesses_in, accesses_of};
 ghost use Rattle.dash_run.specs.Report.{hex, op_text, labels_text, word_text, seen_text, access_head, access_tail, access_line, access_section};
 
 use dash_base::{Labels, OutOfMemory};

@@ -1,5 +1,5 @@
 use Rattle.std.proofs.Common.{◌≡◌, ◌++◌, take, flat_map, string_bytes}
-use Rattle.dash_run.specs.Log.{accesses_of}
+use Rattle.dash_event.specs.Records.{accesses_of}
 use Rattle.dash_run.specs.Report.{access_line}
 use Rattle.dash_run.proofs.access_text.push_accesses.Given as goal
 
