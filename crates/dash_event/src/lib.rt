@@ -13,3 +13,5 @@ mod access;
 mod event;
 mod logged;
 mod step_record;
+#[cfg(test)]
+mod tests;

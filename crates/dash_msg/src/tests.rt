@@ -4,16 +4,20 @@ use crate::{Class, Msg, class};
 use dash_base::{ClusterId, HartId, Line, LineId, WordAddr};
 
 const LINE: LineId = LineId(7);
+
 const HART: HartId = HartId(3);
+
 const WORD: WordAddr = WordAddr(0x1_0000);
+
 const TO: ClusterId = ClusterId(2);
+
 const COPY: Line = Line {
     words: [1, 2, 3, 4],
     version: 5,
 };
 
 #[test]
-fn requests_and_replies_have_their_classes() {
+fn requests_and_replies_have_their_classes(rt: HostRuntime) {
     let requests = [
         Msg::Read { line: LINE },
         Msg::ReadEx { line: LINE },
@@ -43,7 +47,7 @@ fn requests_and_replies_have_their_classes() {
         },
     ];
     for msg in &requests {
-        assert_eq!(class(msg), Class::Request);
+        assert_eq!(rt; class(msg), Class::Request);
     }
     let replies = [
         Msg::Data {
@@ -62,6 +66,6 @@ fn requests_and_replies_have_their_classes() {
         Msg::UnlockAck { hart: HART, old: 1 },
     ];
     for msg in &replies {
-        assert_eq!(class(msg), Class::Reply);
+        assert_eq!(rt; class(msg), Class::Reply);
     }
 }
