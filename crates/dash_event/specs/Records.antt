@@ -1,5 +1,5 @@
 -- What a log records: its accesses, and the records of its events at their order points.
-use Rattle.std.specs.Prelude.{List, [], ◌∷◌, flat_map}
+use Rattle.std.specs.Prelude.{ℕ, List, [], ◌∷◌, flat_map}
 use Rattle.dash_event.specs.declared.access.Access.{Access}
 use Rattle.dash_event.specs.declared.access.Seen.TheVariants.{Nothing}
 use Rattle.dash_event.specs.declared.event.Event.{Event}
@@ -25,6 +25,15 @@ accesses_in kind = []
 -- the accesses of a log, in its order
 abbrev pub accesses_of : List Event → List Access
 accesses_of log = flat_map (λ e. accesses_in e.kind) log
+
+-- the byte that was put on the console, where one was
+abbrev pub bytes_in : Kind → List ℕ
+bytes_in (Put hart pc byte) = byte ∷ []
+bytes_in kind = []
+
+-- the console of a log: the bytes that were put on it, in the log's order
+abbrev pub console_of : List Event → List ℕ
+console_of log = flat_map (λ e. bytes_in e.kind) log
 
 -- the record of an event at its order point, where it has one: a store stands where it retires, an atomic operation where it commits, and a lock word's access where it is served
 abbrev pub records_in : Kind → List StepRecord

@@ -1,4 +1,6 @@
 //! What happens in a cluster.
+ghost use Rattle.std.specs.Prelude.{◌≡◌, option_to_list, option_copied};
+ghost use Rattle.dash_event.specs.Records.{accesses_in};
 
 use crate::access::Access;
 use dash_base::{ClusterId, End, HartId, LineId};
@@ -114,6 +116,23 @@ pub enum Kind {
         from: ClusterId,
         msg: Msg,
     },
+}
+
+impl Kind {
+    /// The access that was made, where one was.
+    pub fn access(&self) -> Option<&Access>
+        ensures { option_to_list (option_copied result) ≡ accesses_in self.now }
+    {
+        match self {
+            Kind::Load { access, .. }
+            | Kind::Store { access }
+            | Kind::Rmw { access, .. }
+            | Kind::ScFail { access }
+            | Kind::Grant { access }
+            | Kind::Free { access, .. } => Some(access),
+            _ => None,
+        }
+    }
 }
 
 /// What happened in a cluster, and when: the stamps of a cluster's events rise, and the stamp of an

@@ -1,5 +1,5 @@
 //! The text of accesses.
-ghost use Rattle.std.specs.Prelude.{◌≡◌, ◌++◌, ℕ, List, Option, length, flat_map, IfOk, OnOk, option_to_list, option_copied, string_bytes, codes};
+ghost use Rattle.std.specs.Prelude.{◌≡◌, ◌++◌, ℕ, List, Option, length, flat_map, IfOk, OnOk, string_bytes, codes};
 ghost use Rattle.dash_event.specs.Records.{accesses_in, accesses_of};
 ghost use Rattle.dash_run.specs.Report.{hex, op_text, labels_text, word_text, seen_text, access_head, access_tail, access_line, access_section};
 
@@ -25,7 +25,7 @@ fn count_accesses(log: &[Event]) -> usize
 {
     let mut count = 0usize;
     for event in log {
-        if access_of(&event.kind).is_some() {
+        if event.kind.access().is_some() {
             count += 1;
         }
     }
@@ -46,24 +46,9 @@ fn push_accesses(text: &mut String, log: &[Event]) -> Result<(), OutOfMemory>
 fn push_accesses_of(text: &mut String, kind: &Kind) -> Result<(), OutOfMemory>
     ensures { OnOk result (string_bytes text.new ≡ string_bytes text.old ++ flat_map access_line (accesses_in kind.now)) }
 {
-    match access_of(kind) {
+    match kind.access() {
         Some(access) => push_access(text, access),
         None => Ok(()),
-    }
-}
-
-/// The access of an event, where it has one.
-fn access_of(kind: &Kind) -> Option<&Access>
-    ensures { option_to_list (option_copied result) ≡ accesses_in kind.now }
-{
-    match kind {
-        Kind::Load { access, .. }
-        | Kind::Store { access }
-        | Kind::Rmw { access, .. }
-        | Kind::ScFail { access }
-        | Kind::Grant { access }
-        | Kind::Free { access, .. } => Some(access),
-        _ => None,
     }
 }
 
