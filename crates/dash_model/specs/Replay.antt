@@ -1,0 +1,102 @@
+-- A log replayed: each hart does its instructions one after another, and each is answered as its event says.
+use Rattle.std.specs.Prelude.{◌≡◌, ◌≢◌, ◌⊎◌, ℕ, ◌+◌, ◌<◌, Bool, List, Some, None, IsSome}
+use Rattle.dash_base.specs.declared.id.HartId.{HartId}
+use Rattle.dash_base.specs.declared.topology.Topology.{Topology}
+use Rattle.elf_load.specs.Image.{ImageView}
+use Rattle.rv32_decode.specs.declared.prefetch.HintKind.{HintKind}
+use Rattle.hart_core.specs.HartState.{HartState}
+use Rattle.hart_core.specs.Meaning.{Does}
+use Rattle.hart_core.specs.Opening.{hart_count, opening_hart}
+use Rattle.hart_core.specs.declared.need.Need.{Need}
+use Rattle.hart_core.specs.declared.need.Need.TheVariants as needed
+use Rattle.dash_event.specs.Records.{unseen}
+use Rattle.dash_event.specs.declared.access.Access.{Access}
+use Rattle.dash_event.specs.declared.access.Op.TheVariants as op
+use Rattle.dash_event.specs.declared.access.Seen.TheVariants.{Line, Own, Nothing}
+use Rattle.dash_event.specs.declared.event.Event.{Event}
+use Rattle.dash_event.specs.declared.event.Kind.{Kind}
+use Rattle.dash_event.specs.declared.event.Kind.TheVariants as kind
+use Rattle.flat_model.specs.Offered.{offered}
+use Rattle.flat_model.specs.Step.{reply}
+use Rattle.dash_model.specs.Log.{IsEventAt}
+
+-- the harts of a machine, by their numbers
+abbrev pub Harts : Type 0
+Harts = ℕ → HartState
+
+-- a hart of the machine did its next instruction, which needed this and was answered so, and no other hart moved
+pub record Moves (image : ImageView) (t : Topology) (old new : Harts) (hart : HartId) (need : Need) (answer : ℕ) : Type 0 where
+  pub in_range : hart.0 < hart_count t
+  pub does : Does image t (old hart.0) need answer (new hart.0)
+  pub others : (g : ℕ) → g ≢ hart.0 → new g ≡ old g
+
+-- no hart moved
+pub record Stays (old new : Harts) : Type 0 where
+  pub stays : (g : ℕ) → new g ≡ old g
+
+-- a hart of the machine is named, and none moved
+pub record Names (t : Topology) (old new : Harts) (hart : HartId) : Type 0 where
+  pub in_range : hart.0 < hart_count t
+  pub stays : (g : ℕ) → new g ≡ old g
+
+-- the next instruction of a hart made an access, with what it read and wrote
+pub record Accesses (image : ImageView) (t : Topology) (old new : Harts) (a : Access) : Type 0 where
+  pub need : Need
+  pub moves : Moves image t old new a.hart need (reply a.read a.written)
+  pub content : ℕ
+  pub succeeds : Bool
+  pub is_offered : offered a.hart.0 ((old a.hart.0).retired + 1) need content succeeds ≡ Some (unseen a)
+
+-- a load is shown a version of its line or its hart's own store, and LR a version of its line
+pub record IsShownVersion (a : Access) : Type 0 where
+  pub version : ℕ
+  pub is : a.seen ≡ Line version
+
+pub record IsShownStore (a : Access) : Type 0 where
+  pub number : ℕ
+  pub is : a.seen ≡ Own number
+
+abbrev pub IsLoad : Access → Type 0
+IsLoad a = ((a.op ≡ op.Load) × (IsShownVersion a ⊎ IsShownStore a)) ⊎ ((a.op ≡ op.Reserve) × IsShownVersion a)
+
+-- an atomic operation, or an SC that succeeds
+abbrev pub IsRmw : Access → Type 0
+IsRmw a = (a.op ≡ op.Amo) ⊎ ((a.op ≡ op.Cond) × IsSome a.written)
+
+-- the fence of an event, the hint of one
+pub record Fences (image : ImageView) (t : Topology) (old new : Harts) (hart : HartId) : Type 0 where
+  pub waits : Bool
+  pub moves : Moves image t old new hart (needed.Fence waits) 0
+
+pub record Hints (image : ImageView) (t : Topology) (old new : Harts) (hart : HartId) : Type 0 where
+  pub hint : HintKind
+  pub address : ℕ
+  pub moves : Moves image t old new hart (needed.Hint hint address) 0
+
+-- what an event does to the harts
+abbrev pub Replays : ImageView → Topology → Harts → Kind → Harts → Type 0
+Replays image t old (kind.Alu hart pc) new = Moves image t old new hart needed.Alu 0
+Replays image t old (kind.Fence hart pc) new = Fences image t old new hart
+Replays image t old (kind.Hint hart pc slot) new = Hints image t old new hart
+Replays image t old (kind.Put hart pc byte) new = Moves image t old new hart (needed.Put byte) 0
+Replays image t old (kind.Stop hart pc end) new = Moves image t old new hart (needed.Stop end) 0
+Replays image t old (kind.Load a level) new = Accesses image t old new a × IsLoad a
+Replays image t old (kind.Store a) new = Accesses image t old new a × (a.op ≡ op.Store) × (a.seen ≡ Nothing)
+Replays image t old (kind.Commit hart number line version) new = Names t old new hart
+Replays image t old (kind.Rmw a line version) new = Accesses image t old new a × IsRmw a
+Replays image t old (kind.ScFail a) new = Accesses image t old new a × (a.op ≡ op.Cond) × (a.written ≡ None) × (a.seen ≡ Nothing)
+Replays image t old (kind.LockSend hart msg) new = Names t old new hart
+Replays image t old (kind.BusRead hart line) new = Names t old new hart
+Replays image t old (kind.BusOwn hart line) new = Names t old new hart
+Replays image t old (kind.Evict hart line) new = Names t old new hart
+Replays image t old (kind.Ask slot hart line own) new = Names t old new hart
+Replays image t old (kind.Again slot line) new = Stays old new
+Replays image t old (kind.Install slot hart line) new = Names t old new hart
+Replays image t old (kind.Grant a) new = Accesses image t old new a × (a.op ≡ op.Ask)
+Replays image t old (kind.Free from a) new = Accesses image t old new a × (a.op ≡ op.Unlock)
+Replays image t old (kind.Take from msg) new = Stays old new
+
+-- the harts before each event of a log and after its last, from their opening states
+pub record IsReplay (image : ImageView) (t : Topology) (log : List Event) (harts : ℕ → Harts) : Type 0 where
+  pub opens : (h : ℕ) → harts 0 h ≡ opening_hart image t h
+  pub moves : (i : ℕ) (happened : Kind) → IsEventAt log i happened → Replays image t (harts i) happened (harts (i + 1))
