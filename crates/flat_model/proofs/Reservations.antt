@@ -119,7 +119,7 @@ follows_on image t g w old r new s =
     subst (λ x. Follows g w r (reserved_in g w old) (reserved_in g w x)) (sym s.after) (follows g w r (old.reservations g))
 
 -- an SC that succeeds finds its word reserved
-cond_finds : (s : FlatState) (h n : ℕ) (need : Need) (old : ℕ) (ok : Bool) (a : Access)
+pub cond_finds : (s : FlatState) (h n : ℕ) (need : Need) (old : ℕ) (ok : Bool) (a : Access)
     → IsPossible s h need ok → offered h n need old ok ≡ Some a → a.op ≡ op.Cond → IsSome a.written → s.reservations h ≡ Some a.word.0
 cond_finds s h n (Load w m l true) old ok a possible is cond_op wrote = absurd (let kind : op.Reserve ≡ a.op = ap (λ o. (unwrap_or o a).op) is in cc)
 cond_finds s h n (Load w m l false) old ok a possible is cond_op wrote = absurd (let kind : op.Load ≡ a.op = ap (λ o. (unwrap_or o a).op) is in cc)

@@ -1,8 +1,10 @@
-//! What the log of the whole machine shows: its accesses and its console.
+//! The log of the whole machine: what it shows, and the law that the logs of properly labelled programs
+//! are sequentially consistent.
 #![tactic(auto)]
 
 pub use log::{accesses, console};
 
+pub mod laws;
 mod log;
 #[cfg(test)]
 mod tests;

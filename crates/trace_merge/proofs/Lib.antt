@@ -1,0 +1,15 @@
+pub mod Places
+pub mod Order
+pub mod Released
+pub mod Offers
+pub mod Facts
+pub mod Commits
+pub mod Before
+pub mod Among
+pub mod Content
+pub mod Writers
+pub mod Bytes
+pub mod Needs
+pub mod Locks
+pub mod Reserved
+pub mod Law
