@@ -1,11 +1,9 @@
 -- The log of the plain machine, which takes the harts in rotation over one flat memory: an event for each step.
-use Rattle.std.specs.Prelude.{ℕ, ◌+◌, ◌-◌, ◌/◌, ◌<◌, List, [], ◌∷◌, ◌++◌, length, Option, Some, None}
-use Rattle.dash_base.specs.declared.id.ClusterId.{ClusterId}
+use Rattle.std.specs.Prelude.{ℕ, ◌+◌, ◌<◌, List, [], ◌∷◌, ◌++◌, length, Option, Some, None}
 use Rattle.dash_base.specs.declared.id.HartId.{HartId}
-use Rattle.dash_base.specs.declared.id.LineId.{LineId}
-use Rattle.dash_base.specs.declared.id.WordAddr.{WordAddr}
 use Rattle.dash_base.specs.declared.topology.Topology.{Topology}
 use Rattle.elf_load.specs.Image.{ImageView}
+use Rattle.dash_event.specs.Places.{cluster_of, line_of}
 use Rattle.dash_event.specs.declared.access.Access.{Access}
 use Rattle.dash_event.specs.declared.access.Op.{Op}
 use Rattle.dash_event.specs.declared.access.Op.TheVariants as op
@@ -20,14 +18,6 @@ use Rattle.hart_core.specs.Opening.{hart_count}
 use Rattle.flat_model.specs.State.{FlatState, opening_state}
 use Rattle.flat_model.specs.Run.{IsStanding}
 use Rattle.flat_model.specs.Driven.{IsEagerStep, rotation}
-
--- the cluster that a hart stands in
-abbrev pub cluster_of : Topology → HartId → ClusterId
-cluster_of t hart = record { 0 = hart.0 / t.harts }
-
--- the line of 16 bytes that a word of memory is in
-abbrev pub line_of : Topology → WordAddr → LineId
-line_of t word = record { 0 = (word.0 - t.base) / 16 }
 
 -- an SC that wrote, or one that failed
 abbrev pub cond_kind : Topology → Access → Option ℕ → Kind

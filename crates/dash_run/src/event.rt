@@ -1,7 +1,8 @@
 //! The event of a step of the plain machine.
 ghost use Rattle.std.specs.Prelude.{◌≡◌, ◌+◌, ◌<◌, ◌^◌, ◌++◌, ◌∷◌, [], length, OnOk};
 ghost use Rattle.dash_event.specs.declared.event.Kind.TheVariants.{Rmw};
-ghost use Rattle.dash_run.specs.Log.{cluster_of, line_of, cond_kind, access_kind, quiet_kind, kind_of, event_of};
+ghost use Rattle.dash_event.specs.Places.{cluster_of, line_of};
+ghost use Rattle.dash_run.specs.Log.{cond_kind, access_kind, quiet_kind, kind_of, event_of};
 
 use dash_base::{ClusterId, HartId, LineId, OutOfMemory, Topology, WordAddr};
 use dash_event::{Access, Event, Kind, Op, StepRecord};
