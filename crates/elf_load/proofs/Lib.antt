@@ -1,4 +1,3 @@
 pub mod Flags
 pub mod ReadOnly
 pub mod Touched
-pub mod Whole

@@ -1,5 +1,6 @@
 -- The fields of an ELF file of 32 bits that the loader looks at (System V ABI, "ELF Header" and "Program Header").
-use Rattle.std.specs.Prelude.{ℕ, ◌+◌, List, drop, slice_index}
+use Rattle.std.specs.Prelude.{ℕ, ◌+◌, ◌*◌, List, drop, map, slice_index}
+use Rattle.std.specs.List.{range_with_len}
 use Rattle.byteorder.specs.Endian.{little_number}
 use Rattle.elf_load.specs.declared.header.FileHeader.{FileHeader}
 use Rattle.elf_load.specs.declared.header.ProgramHeader.{ProgramHeader}
@@ -36,3 +37,11 @@ program_header bytes place = record {
   p_memsz = word_at bytes (place + 20);
   p_flags = word_at bytes (place + 24);
 }
+
+-- the program header of a number, from 0, in the file's table of program headers
+unfoldable pub header_at : List ℕ → ℕ → ProgramHeader
+header_at bytes i = program_header bytes ((file_header bytes).e_phoff + 32 * i)
+
+-- the table of program headers
+abbrev pub program_headers : List ℕ → List ProgramHeader
+program_headers bytes = map (header_at bytes) (range_with_len 0 (file_header bytes).e_phnum)

@@ -1,7 +1,7 @@
 //! The headers of an ELF file of 32 bits: the fields that the loader looks at, under their names in
 //! the System V ABI.
 ghost use Rattle.std.specs.Prelude.{◌≡◌, ◌+◌, ◌*◌, ◌≤◌, length};
-ghost use Rattle.elf_load.specs.Header.{half_at, word_at, file_header, program_header};
+ghost use Rattle.elf_load.specs.Header.{half_at, word_at, file_header, program_header, header_at};
 
 use byteorder::{ByteOrder, LittleEndian};
 
@@ -91,6 +91,17 @@ impl ProgramHeader {
             p_memsz: word_at(bytes, place + 20),
             p_flags: word_at(bytes, place + 24),
         }
+    }
+
+    /// The program header of a number, from 0, in the file's table of program headers.
+    #[tactic(auto, unfolding(crate::specs::Header::header_at))]
+    pub fn of_number(bytes: &[u8], number: u32) -> ProgramHeader
+        requires file { 52 ≤ length bytes.now }
+        requires table { (file_header bytes.now).e_phoff + 32 * number + 32 ≤ length bytes.now }
+        ensures { result ≡ header_at bytes.now number }
+    {
+        let table = FileHeader::read(bytes).e_phoff as usize;
+        ProgramHeader::read(bytes, table + ProgramHeader::SIZE * number as usize)
     }
 
     /// The address at which its segment ends in memory.

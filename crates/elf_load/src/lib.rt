@@ -1,8 +1,7 @@
 //! Reads the executable file of a program for the simulated machine: an ELF file of 32 bits for
 //! RISC-V (System V ABI, "ELF Header" and "Program Header").
 //!
-//! Served so far are files with one program header, whose segment holds code and has all its bytes
-//! in the file.
+//! [`load`] gives an image, or the first of fourteen refusals that applies.
 #![tactic(auto)]
 
 pub use dash_base::{OutOfMemory, Segment};
@@ -11,12 +10,15 @@ pub use loader::load;
 pub use memory_map::MemoryMap;
 pub use refusal::LoadRefusal;
 
+mod file_checks;
 mod header;
 mod image;
 mod loader;
 mod memory_map;
+mod overlap;
 mod refusal;
+mod segment_checks;
+mod segment_table;
 mod segments;
-mod served;
 #[cfg(test)]
 mod tests;

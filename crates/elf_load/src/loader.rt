@@ -1,99 +1,76 @@
 //! The loader.
-ghost use Rattle.std.specs.Prelude.{◌≡◌, ◌+◌, ◌≤◌, IfOk, IfErr, false, length};
-ghost use Rattle.elf_load.specs.Loader.{refusal_of, image_of, is_short, is_elf, is_supported, segment_of, IsWhole, Refuses};
+ghost use Rattle.std.specs.Prelude.{◌≡◌, ◌+◌, ◌≤◌, All, map, IfOk, IfErr, length};
+ghost use Rattle.elf_load.specs.Header.{file_header};
+ghost use Rattle.elf_load.specs.Refusal.{IsLoadable};
+ghost use Rattle.elf_load.specs.Loader.{image_of, segment_of, Refuses};
+ghost use Rattle.elf_load.specs.Table.{HasBytes};
 
+use crate::file_checks::file_refusal;
 use crate::header::{FileHeader, ProgramHeader};
 use crate::image::Image;
 use crate::memory_map::MemoryMap;
 use crate::refusal::LoadRefusal;
-use crate::served;
+use crate::segment_checks::segment_refusal;
+use crate::segment_table::{Numbered, segment_table};
 use dash_base::{OutOfMemory, Segment};
 use std::alloc::Global;
 
-/// Reads an executable file (System V ABI, "ELF Header" and "Program Header") whose segment is to lie
+/// Reads an executable file (System V ABI, "ELF Header" and "Program Header") whose segments are to lie
 /// in the memory that `map` says.
+///
+/// Only program headers of type `PT_LOAD` count, and of these only those with bytes in the file or in
+/// memory: the others are passed over, whatever they hold. So is what is not named below, as sections,
+/// physical addresses, alignments and the other bits of `e_flags`. A segment may be both writable and
+/// executable.
 ///
 /// # Errors
 ///
-/// The first of these that applies. Fields that are not named here may hold anything.
+/// The first of these that applies, at the least program header. Sums don't wrap.
 ///
 /// - `Short { at }`: the file has fewer than 52 bytes, or fewer than `e_phoff + 32 * e_phnum`. `at` is
 ///   its length.
 /// - `NotElf`: the first four bytes are not 7F 45 4C 46.
-/// - `Unsupported`: one of these fails. Bytes 4 and 5 are 1. `e_machine` is 243, and `e_type` is 2. Bits
-///   0 and 3 of `e_flags` are clear. `e_phnum` is 1, and `e_phentsize` is 32. `p_type` is 1, and bit 0
-///   of `p_flags` is set. The `p_filesz` bytes from `p_offset` on lie in the file. `p_filesz` is
-///   `p_memsz` and above 0. The `p_memsz` bytes from the address `p_vaddr` on lie in memory. `e_entry`
-///   is a multiple of 4, and its four bytes lie in the segment.
+/// - `NotClass32Little`: byte 4 is not 1, or byte 5 is not 1.
+/// - `NotRiscv`: `e_machine` is not 243.
+/// - `NotExec`: `e_type` is not 2.
+/// - `Compressed`: bit 0 of `e_flags` is set.
+/// - `Reduced`: bit 3 of `e_flags` is set.
+/// - `HeaderSize { size }`: `e_phnum` is not 0, and `e_phentsize`, which is `size`, is not 32.
+/// - `SegmentOutOfFile { i }`: `p_offset + p_filesz` is above the length of the file.
+/// - `FileSizeAboveMemory { i }`: `p_filesz` is above `p_memsz`.
+/// - `SegmentOutOfMemory { i }`: `p_vaddr` is below `map.base`, or `p_vaddr + p_memsz` above
+///   `map.base + map.size`.
+/// - `Overlap { i, j }`: segments `i` and `j`, `i` below `j`, share an address.
+/// - `NoSegment`: no program header counts.
+/// - `EntryNotExecutable { entry }`: `e_entry` is no multiple of 4, or its four bytes are not all in one
+///   segment that has bit 0 of `p_flags` set.
 /// - `OutOfMemory`, which may come in place of any of these, and of an image.
-#[tactic(auto, using(crate::proofs::Whole::accepted_is_whole))]
 pub fn load(alloc: Global, bytes: &[u8], map: MemoryMap) -> Result<Image, LoadRefusal>
     ensures ok { IfOk result (λ image.
-        (refusal_of bytes.now map ≡ None) × (image ≡ image_of bytes.now)) }
-    ensures err { IfErr result (Refuses (refusal_of bytes.now map)) }
+        IsLoadable bytes.now map × (image ≡ image_of bytes.now)) }
+    ensures err { IfErr result (Refuses bytes.now map) }
 {
-    match refusal(bytes, map) {
+    if let Some(refusal) = file_refusal(bytes) {
+        return Err(refusal);
+    }
+    let segments = segment_table(alloc, bytes)?;
+    match segment_refusal(bytes, segments.as_slice(), map) {
         Some(refusal) => Err(refusal),
-        None => Ok(image(alloc, bytes)?),
+        None => Ok(image(alloc, bytes, segments.as_slice())?),
     }
 }
 
-/// The first refusal that applies.
-#[tactic(auto, unfolding(crate::specs::Loader::refusal_of))]
-fn refusal(bytes: &[u8], map: MemoryMap) -> Option<LoadRefusal>
-    ensures { result ≡ refusal_of bytes.now map }
+/// The image of a file with these segments, whose bytes are all there.
+fn image(alloc: Global, bytes: &[u8], headers: &[Numbered]) -> Result<Image, OutOfMemory>
+    requires header { 52 ≤ length bytes.now }
+    requires segments { All (HasBytes (length bytes.now)) headers.now }
+    ensures { IfOk result (λ image. image ≡ record { entry = (file_header bytes.now).e_entry; segments = map (λ s. segment_of bytes.now s.header) headers.now }) }
 {
-    if is_short(bytes) {
-        Some(LoadRefusal::Short {
-            at: bytes.len() as u64,
-        })
-    } else if !is_elf(bytes) {
-        Some(LoadRefusal::NotElf)
-    } else if !is_supported(bytes, map) {
-        Some(LoadRefusal::Unsupported)
-    } else {
-        None
+    let mut segments: Vec<Segment> = Vec::with_capacity(alloc, headers.len())?;
+    for numbered in headers {
+        segments.push(segment(alloc, bytes, numbered.header)?)?;
     }
-}
-
-/// Whether the file ends before its file header or its program headers do.
-fn is_short(bytes: &[u8]) -> bool
-    ensures { result ≡ is_short bytes.now }
-{
-    bytes.len() < FileHeader::SIZE || bytes.len() < FileHeader::read(bytes).headers_end()
-}
-
-/// Whether the file begins as an ELF file does.
-fn is_elf(bytes: &[u8]) -> bool
-    ensures { result ≡ is_elf bytes.now }
-{
-    bytes.starts_with(b"\x7fELF")
-}
-
-/// Whether the file, its segment and its entry are as they have to be.
-fn is_supported(bytes: &[u8], map: MemoryMap) -> bool
-    requires { is_short bytes.now ≡ false }
-    ensures { result ≡ is_supported bytes.now map }
-{
-    let file = FileHeader::read(bytes);
-    served::is_served_file(file)
-        && {
-            let program = ProgramHeader::read(bytes, file.e_phoff as usize);
-            served::is_served_segment(program, bytes.len(), file.e_entry, map)
-        }
-}
-
-/// The image of a file whose headers and whose segment's bytes are all there.
-#[tactic(auto, unfolding(crate::specs::Loader::image_of))]
-fn image(alloc: Global, bytes: &[u8]) -> Result<Image, OutOfMemory>
-    requires { IsWhole bytes.now }
-    ensures { IfOk result (λ image. image ≡ image_of bytes.now) }
-{
-    let file = FileHeader::read(bytes);
-    let program = ProgramHeader::read(bytes, file.e_phoff as usize);
-    let mut segments = Vec::with_capacity(alloc, 1)?;
-    segments.push(segment(alloc, bytes, program)?)?;
-    Ok(Image::new(file.e_entry, segments))
+    Ok(Image::new(FileHeader::read(bytes).e_entry, segments))
 }
 
 /// The segment of a program header, with its bytes.

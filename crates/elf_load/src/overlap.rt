@@ -1,0 +1,40 @@
+//! Segments that share an address.
+ghost use Rattle.std.specs.Prelude.{◌≡◌, option_copied, find};
+ghost use Rattle.elf_load.specs.Table.{clashes, has_clash, first_overlap};
+
+use crate::segment_table::Numbered;
+
+/// The numbers of the first segment that shares an address with another, and of the first other one
+/// that it shares one with.
+pub fn first_overlap(segments: &[Numbered]) -> Option<(u32, u32)>
+    ensures { result ≡ first_overlap segments.now }
+{
+    let first = first_clashing(segments)?;
+    let second = segments.iter().find(|segment| clashes(first, segment))?;
+    Some((first.number, second.number))
+}
+
+/// The first segment that shares an address with another.
+fn first_clashing(segments: &[Numbered]) -> Option<&Numbered>
+    ensures { option_copied result ≡ find (has_clash segments.now) segments.now }
+{
+    segments
+        .iter()
+        .find(|segment| has_clash(segments, segment))
+}
+
+/// Whether some segment of the list shares an address with this one.
+fn has_clash(segments: &[Numbered], segment: &Numbered) -> bool
+    ensures { result ≡ has_clash segments.now segment.now }
+{
+    segments.iter().any(|other| clashes(segment, other))
+}
+
+/// Whether the segments are two, and share an address.
+fn clashes(segment: &Numbered, other: &Numbered) -> bool
+    ensures { result ≡ clashes segment.now other.now }
+{
+    let start = segment.header.p_vaddr.max(other.header.p_vaddr);
+    let end = segment.header.segment_end().min(other.header.segment_end());
+    segment.number != other.number && u64::from(start) < end
+}

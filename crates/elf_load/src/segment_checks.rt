@@ -1,0 +1,103 @@
+//! The refusals that the segments decide.
+ghost use Rattle.std.specs.Prelude.{◌≡◌, false, MatchOption};
+ghost use Rattle.elf_load.specs.Header.{file_header};
+ghost use Rattle.elf_load.specs.Refusal.{is_short, is_out_of_file, is_above_memory_size, is_out_of_memory, IsFirst, IsLoadable};
+ghost use Rattle.elf_load.specs.Stages.{IsClear};
+ghost use Rattle.elf_load.specs.Table.{numbered_segments, first_failing, has_word_at, is_executable_among};
+
+use crate::header::{FileHeader, ProgramHeader};
+use crate::memory_map::MemoryMap;
+use crate::overlap::first_overlap;
+use crate::refusal::LoadRefusal;
+use crate::segment_table::Numbered;
+use dash_base::Segment;
+
+/// The first of the refusals 9 to 14 that applies, to a file with these segments to which none of those
+/// before does.
+pub fn segment_refusal(bytes: &[u8], segments: &[Numbered], map: MemoryMap) -> Option<LoadRefusal>
+    requires whole { is_short bytes.now ≡ false }
+    requires clear { IsClear 9 bytes.now map }
+    requires table { segments.now ≡ numbered_segments bytes.now }
+    ensures { MatchOption result (IsLoadable bytes.now map) (IsFirst bytes.now map) }
+{
+    let entry = FileHeader::read(bytes).e_entry;
+    if let Some(i) = first_out_of_file(segments, bytes.len()) {
+        Some(LoadRefusal::SegmentOutOfFile { i })
+    } else if let Some(i) = first_above_memory_size(segments) {
+        Some(LoadRefusal::FileSizeAboveMemory { i })
+    } else if let Some(i) = first_out_of_memory(segments, map) {
+        Some(LoadRefusal::SegmentOutOfMemory { i })
+    } else if let Some((i, j)) = first_overlap(segments) {
+        Some(LoadRefusal::Overlap { i, j })
+    } else if segments.is_empty() {
+        Some(LoadRefusal::NoSegment)
+    } else if !is_executable(segments, entry) {
+        Some(LoadRefusal::EntryNotExecutable { entry })
+    } else {
+        None
+    }
+}
+
+/// The number of the first segment whose bytes end behind the end of a file of `len` bytes.
+fn first_out_of_file(segments: &[Numbered], len: usize) -> Option<u32>
+    ensures { result ≡ first_failing (is_out_of_file len) segments.now }
+{
+    segments
+        .iter()
+        .find(|segment| is_out_of_file(segment.header, len))
+        .map(|segment| segment.number)
+}
+
+/// The number of the first segment that has more bytes in the file than in memory.
+fn first_above_memory_size(segments: &[Numbered]) -> Option<u32>
+    ensures { result ≡ first_failing is_above_memory_size segments.now }
+{
+    segments
+        .iter()
+        .find(|segment| is_above_memory_size(segment.header))
+        .map(|segment| segment.number)
+}
+
+/// The number of the first segment that begins before memory or ends behind it.
+fn first_out_of_memory(segments: &[Numbered], map: MemoryMap) -> Option<u32>
+    ensures { result ≡ first_failing (is_out_of_memory map) segments.now }
+{
+    segments
+        .iter()
+        .find(|segment| is_out_of_memory(segment.header, map))
+        .map(|segment| segment.number)
+}
+
+/// Whether an address is a multiple of 4, and one segment that may be executed has all four bytes from
+/// it on.
+fn is_executable(segments: &[Numbered], address: u32) -> bool
+    ensures { result ≡ is_executable_among segments.now address }
+{
+    address % 4 == 0 && segments.iter().any(|segment| has_word_at(segment.header, address))
+}
+
+fn is_out_of_file(header: ProgramHeader, len: usize) -> bool
+    ensures { result ≡ is_out_of_file len header }
+{
+    len < header.p_offset as usize + header.p_filesz as usize
+}
+
+fn is_above_memory_size(header: ProgramHeader) -> bool
+    ensures { result ≡ is_above_memory_size header }
+{
+    header.p_memsz < header.p_filesz
+}
+
+fn is_out_of_memory(header: ProgramHeader, map: MemoryMap) -> bool
+    ensures { result ≡ is_out_of_memory map header }
+{
+    header.p_vaddr < map.base || u64::from(map.base) + u64::from(map.size) < header.segment_end()
+}
+
+fn has_word_at(header: ProgramHeader, address: u32) -> bool
+    ensures { result ≡ has_word_at address header }
+{
+    header.p_flags & Segment::EXECUTE != 0
+        && header.p_vaddr <= address
+        && u64::from(address) + 4 <= header.segment_end()
+}
