@@ -3,7 +3,8 @@ use Rattle.std.proofs.Common.{◌≡◌, ℕ, inr, List, Option, Some, None, ref
 use Rattle.dash_base.specs.Topology.{IsSimple, simple_refusal}
 use Rattle.dash_base.specs.declared.topology.Topology.{Topology}
 use Rattle.elf_load.specs.Image.{ImageView}
-use Rattle.elf_load.specs.Loader.{refusal_of, image_of, Refuses}
+use Rattle.elf_load.specs.Loader.{image_of, Refuses}
+use Rattle.elf_load.specs.Refusal.{IsFirstRefusal, IsLoadable}
 use Rattle.elf_load.specs.declared.memory_map.MemoryMap.{MemoryMap}
 use Rattle.elf_load.specs.declared.refusal.LoadRefusal.{LoadRefusal}
 use Rattle.elf_load.specs.declared.refusal.LoadRefusal.TheVariants as load_refusal
@@ -13,7 +14,7 @@ use Rattle.dash_run.specs.CommandLine.{Request}
 use Rattle.dash_run.specs.Owed.{IsAnswer, IsAnswerOn, IsReport}
 
 pub report_on : (bytes : List ℕ) (image : ImageView) (t : Topology) (m : MemoryMap) (owed : Owed)
-    → m.base ≡ t.base → m.size ≡ t.memory → refusal_of bytes m ≡ None → image ≡ image_of bytes → IsReport image t owed → IsAnswerOn t bytes owed
+    → m.base ≡ t.base → m.size ≡ t.memory → IsLoadable bytes m → image ≡ image_of bytes → IsReport image t owed → IsAnswerOn t bytes owed
 report_on bytes image t m Usage base size accepted same report = report
 report_on bytes image t m (Line status text) base size accepted same report = absurd report
 report_on bytes image t m (Report status console harts accesses log) base size accepted same report = record {
@@ -25,11 +26,9 @@ report_on bytes image t m (Report status console harts accesses log) base size a
 }
 
 -- a refusal for another cause than memory is the one that applies
-pub refusal_applies : (first : Option LoadRefusal) (refusal : LoadRefusal) → (refusal ≡ load_refusal.OutOfMemory → ⊥) → Refuses first refusal → first ≡ Some refusal
-refusal_applies first (load_refusal.Short at) other refuses = refuses
-refusal_applies first load_refusal.NotElf other refuses = refuses
-refusal_applies first load_refusal.Unsupported other refuses = refuses
-refusal_applies first load_refusal.OutOfMemory other refuses = absurd (other refl)
+pub refusal_applies : (bytes : List ℕ) (map : MemoryMap) (refusal : LoadRefusal) → (refusal ≡ load_refusal.OutOfMemory → ⊥) → Refuses bytes map refusal → IsFirstRefusal bytes map refusal
+refusal_applies bytes map load_refusal.OutOfMemory other refuses = absurd (other refl)
+refusal_applies bytes map refusal other refuses = refuses
 
 -- what is owed on a topology that was asked for is what is owed
 pub answer_on_asked : (q : Request) (t : Topology) (bytes : List ℕ) (owed : Owed)

@@ -6,7 +6,8 @@ use Rattle.dash_base.specs.declared.host.Stream.{Stream}
 use Rattle.dash_base.specs.declared.topology.TopoRefusal.{TopoRefusal}
 use Rattle.dash_event.specs.declared.event.Event.{Event}
 use Rattle.elf_load.specs.declared.refusal.LoadRefusal.{LoadRefusal}
-use Rattle.elf_load.specs.Loader.{refusal_of}
+use Rattle.elf_load.specs.Refusal.{IsFirstRefusal}
+use Rattle.elf_load.specs.declared.memory_map.MemoryMap.{MemoryMap}
 use Rattle.dash_run.specs.CommandLine.{Request, Asks, IsFormless}
 use Rattle.dash_run.specs.Outcome.{Owes, usage, failed, large, misshapen, refused, reported, Ends, printed_all, print_failed, out_of_memory, Change, IsGiven, IsTooLarge, IsRefusedTopology, IsRefused, IsReported, IsAccepted, IsRunStatus, IsSteady, IsClean, image_limit}
 use Rattle.dash_run.proofs.Maps.{one_map}
@@ -56,7 +57,8 @@ same_size words files loads prints q r bytes size clean asks is =
 pub one_answer : (q : Request) (bytes : List ℕ) (refusal : LoadRefusal) (status : ℕ) (text : List ℕ) (log : List Event) → IsRefused q bytes refusal → IsReported q bytes status text log → ⊥
 one_answer q bytes refusal status text log is report =
     let same = one_map q is.machine report.machine is.map report.map is.is_machine report.is_machine in
-    none_is_none (refusal_of bytes is.map) refusal (ap (refusal_of bytes) same ∙ report.accepted) is.refused
+    let first : IsFirstRefusal bytes report.map refusal = subst (λ (m : MemoryMap). IsFirstRefusal bytes m refusal) same is.refused in
+    report.accepted refusal first.applies
 
 -- what is said of one request and its file is said of the other
 moved : (P : Request → List ℕ → Type 0) (q r : Request) (bytes other : List ℕ) → r ≡ q → other ≡ bytes → P r other → P q bytes

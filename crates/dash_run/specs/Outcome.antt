@@ -11,16 +11,17 @@ use Rattle.dash_base.specs.declared.topology.TopoRefusal.{TopoRefusal}
 use Rattle.dash_base.specs.declared.topology.TopoRefusal.TheVariants as topo
 use Rattle.dash_event.specs.declared.event.Event.{Event}
 use Rattle.dash_event.specs.Records.{records_of}
-use Rattle.elf_load.specs.Loader.{refusal_of, image_of}
+use Rattle.elf_load.specs.Loader.{image_of}
+use Rattle.elf_load.specs.Refusal.{IsFirstRefusal, IsLoadable}
 use Rattle.elf_load.specs.declared.memory_map.MemoryMap.{MemoryMap}
 use Rattle.elf_load.specs.declared.refusal.LoadRefusal.{LoadRefusal}
-use Rattle.elf_load.specs.declared.refusal.LoadRefusal.TheVariants.{Short, NotElf, Unsupported, OutOfMemory}
+use Rattle.elf_load.specs.declared.refusal.LoadRefusal.TheVariants.{Short, NotElf, NotClass32Little, NotRiscv, NotExec, Compressed, Reduced, HeaderSize, SegmentOutOfFile, FileSizeAboveMemory, SegmentOutOfMemory, Overlap, NoSegment, EntryNotExecutable, OutOfMemory}
 use Rattle.flat_model.specs.State.{FlatState}
 use Rattle.flat_model.specs.Run.{IsCompleteRun}
 use Rattle.flat_model.specs.Held.{harts_of}
 use Rattle.dash_run.specs.CommandLine.{Request, Asks, IsFormless}
 use Rattle.dash_run.specs.Log.{IsPlainRun}
-use Rattle.dash_run.specs.Report.{newline, report_of, status_of}
+use Rattle.dash_run.specs.Report.{newline, hex, report_of, status_of}
 
 -- an image file has at most so many bytes
 abbrev pub image_limit : ℕ
@@ -65,10 +66,22 @@ topology_text topo.OutOfMemory = []
 unfoldable pub topology_line : TopoRefusal → List ℕ
 topology_line refusal = codes "dash: topology: " ++ topology_text refusal ++ newline
 
+-- the refusal's number and its cause
 abbrev pub refusal_text : LoadRefusal → List ℕ
 refusal_text (Short at) = codes "1 short at " ++ decimal at
 refusal_text NotElf = codes "2 not an ELF file"
-refusal_text Unsupported = codes "15 unsupported"
+refusal_text NotClass32Little = codes "3 not class 32 little endian"
+refusal_text NotRiscv = codes "4 not for RISC-V"
+refusal_text NotExec = codes "5 not an executable"
+refusal_text Compressed = codes "6 compressed instructions"
+refusal_text Reduced = codes "7 reduced registers"
+refusal_text (HeaderSize size) = codes "8 header size " ++ decimal size
+refusal_text (SegmentOutOfFile i) = codes "9 segment " ++ decimal i ++ codes " out of file"
+refusal_text (FileSizeAboveMemory i) = codes "10 segment " ++ decimal i ++ codes " file size above memory size"
+refusal_text (SegmentOutOfMemory i) = codes "11 segment " ++ decimal i ++ codes " out of memory"
+refusal_text (Overlap i j) = codes "12 segments " ++ decimal i ++ codes " and " ++ decimal j ++ codes " overlap"
+refusal_text NoSegment = codes "13 no segment"
+refusal_text (EntryNotExecutable entry) = codes "14 entry " ++ hex entry ++ codes " not executable"
 refusal_text OutOfMemory = []
 
 unfoldable pub refusal_line : LoadRefusal → List ℕ
@@ -90,14 +103,14 @@ pub record IsRefused (q : Request) (bytes : List ℕ) (refusal : LoadRefusal) : 
   pub machine : Topology
   pub map : MemoryMap
   pub is_machine : IsMachine q machine map
-  pub refused : refusal_of bytes map ≡ Some refusal
+  pub refused : IsFirstRefusal bytes map refusal
 
 -- the topology and an image with these bytes are accepted, and the plain machine's run of it ends with this exit status, report and log
 pub record IsReported (q : Request) (bytes : List ℕ) (status : ℕ) (text : List ℕ) (log : List Event) : Type 0 where
   pub machine : Topology
   pub map : MemoryMap
   pub is_machine : IsMachine q machine map
-  pub accepted : refusal_of bytes map ≡ None
+  pub accepted : IsLoadable bytes map
   pub state : FlatState
   pub run : IsPlainRun (image_of bytes) machine log state
   pub is_status : status ≡ status_of machine (harts_of machine state)
@@ -195,7 +208,7 @@ pub record RunsSequentially (words : List (List ℕ)) (files : Option Files) (lo
   pub machine : Topology
   pub map : MemoryMap
   pub is_machine : IsMachine request machine map
-  pub accepted : refusal_of bytes map ≡ None
+  pub accepted : IsLoadable bytes map
   pub final : FlatState
   pub complete : IsCompleteRun (image_of bytes) machine (records_of log) final
 

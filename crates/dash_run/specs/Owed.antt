@@ -6,7 +6,8 @@ use Rattle.dash_base.specs.declared.topology.Topology.{Topology}
 use Rattle.dash_base.specs.declared.topology.TopoRefusal.{TopoRefusal}
 use Rattle.dash_event.specs.declared.event.Event.{Event}
 use Rattle.elf_load.specs.Image.{ImageView}
-use Rattle.elf_load.specs.Loader.{refusal_of, image_of}
+use Rattle.elf_load.specs.Loader.{image_of}
+use Rattle.elf_load.specs.Refusal.{IsFirstRefusal, IsLoadable}
 use Rattle.elf_load.specs.declared.memory_map.MemoryMap.{MemoryMap}
 use Rattle.elf_load.specs.declared.refusal.LoadRefusal.{LoadRefusal}
 use Rattle.flat_model.specs.State.{FlatState}
@@ -77,7 +78,7 @@ pub record IsRefusalOn (t : Topology) (bytes : List ℕ) (status : ℕ) (text : 
   pub base : map.base ≡ t.base
   pub size : map.size ≡ t.memory
   pub refusal : LoadRefusal
-  pub refused : refusal_of bytes map ≡ Some refusal
+  pub refused : IsFirstRefusal bytes map refusal
   pub status_is : status ≡ 3
   pub text_is : text ≡ refusal_line refusal
 
@@ -85,7 +86,7 @@ pub record IsReportOn (t : Topology) (bytes : List ℕ) (owed : Owed) : Type 0 w
   pub map : MemoryMap
   pub base : map.base ≡ t.base
   pub size : map.size ≡ t.memory
-  pub accepted : refusal_of bytes map ≡ None
+  pub accepted : IsLoadable bytes map
   pub report : IsReport (image_of bytes) t owed
 
 abbrev pub IsAnswerOn : Topology → List ℕ → Owed → Type 0

@@ -1,11 +1,11 @@
 //! The lines on standard error.
-ghost use Rattle.std.specs.Prelude.{◌≡◌, ◌≢◌, ◌++◌, IfOk, OnOk, string_bytes};
-ghost use Rattle.elf_load.specs.declared.refusal.LoadRefusal.TheVariants as load_refusal;
+ghost use Rattle.std.specs.Prelude.{◌≡◌, ◌++◌, IfOk, OnOk, string_bytes};
 ghost use Rattle.dash_run.specs.Outcome.{usage_line, failed_line, large_line, topology_line, topology_text, key_text, refusal_line, refusal_text, image_limit};
 
 use dash_base::{Key, OutOfMemory, TopoRefusal};
 use elf_load::LoadRefusal;
 use std::alloc::Global;
+use std::fmt::Write;
 
 /// An image file has at most so many bytes.
 pub const IMAGE_LIMIT: u64 = 33_554_432;
@@ -92,16 +92,42 @@ fn key_name(key: Key) -> &'static str
     }
 }
 
-/// The line for an image that is refused, for another cause than memory.
+/// The line for an image that is refused.
 #[tactic(auto, unfolding(crate::specs::Outcome::refusal_line))]
 pub fn refused(alloc: Global, refusal: LoadRefusal) -> Result<String, OutOfMemory>
-    requires { refusal ≢ load_refusal.OutOfMemory }
     ensures { IfOk result (λ text. string_bytes text ≡ refusal_line refusal) }
 {
+    let mut text = String::from_str(alloc, "dash: image: ")?;
+    push_refusal(&mut text, refusal)?;
+    text.push_str("\n")?;
+    Ok(text)
+}
+
+/// The number of a refusal, and why the image is refused.
+#[tactic(auto, unfolding(crate::specs::Report::hex))]
+fn push_refusal(text: &mut String, refusal: LoadRefusal) -> Result<(), OutOfMemory>
+    ensures { OnOk result (string_bytes text.new ≡ string_bytes text.old ++ refusal_text refusal) }
+{
     match refusal {
-        LoadRefusal::Short { at } => Ok(format!(in alloc; "dash: image: 1 short at {at}\n")?),
-        LoadRefusal::NotElf => Ok(String::from_str(alloc, "dash: image: 2 not an ELF file\n")?),
-        LoadRefusal::Unsupported => Ok(String::from_str(alloc, "dash: image: 15 unsupported\n")?),
-        LoadRefusal::OutOfMemory => unreachable!(),
+        LoadRefusal::Short { at } => write!(text, "1 short at {at}")?,
+        LoadRefusal::NotElf => text.push_str("2 not an ELF file")?,
+        LoadRefusal::NotClass32Little => text.push_str("3 not class 32 little endian")?,
+        LoadRefusal::NotRiscv => text.push_str("4 not for RISC-V")?,
+        LoadRefusal::NotExec => text.push_str("5 not an executable")?,
+        LoadRefusal::Compressed => text.push_str("6 compressed instructions")?,
+        LoadRefusal::Reduced => text.push_str("7 reduced registers")?,
+        LoadRefusal::HeaderSize { size } => write!(text, "8 header size {size}")?,
+        LoadRefusal::SegmentOutOfFile { i } => write!(text, "9 segment {i} out of file")?,
+        LoadRefusal::FileSizeAboveMemory { i } => {
+            write!(text, "10 segment {i} file size above memory size")?;
+        }
+        LoadRefusal::SegmentOutOfMemory { i } => write!(text, "11 segment {i} out of memory")?,
+        LoadRefusal::Overlap { i, j } => write!(text, "12 segments {i} and {j} overlap")?,
+        LoadRefusal::NoSegment => text.push_str("13 no segment")?,
+        LoadRefusal::EntryNotExecutable { entry } => {
+            write!(text, "14 entry {entry:08x} not executable")?;
+        }
+        LoadRefusal::OutOfMemory => {}
     }
+    Ok(())
 }

@@ -219,7 +219,7 @@ fn each_refusal_gives_its_line_alone(rt: HostRuntime) -> Result<(), Fail> {
             &["run", "a.elf"],
             no_header,
             3,
-            "dash: image: 15 unsupported\n",
+            "dash: image: 13 no segment\n",
         ),
         (
             &["run", "b.elf"],

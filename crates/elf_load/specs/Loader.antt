@@ -3,7 +3,7 @@ use Rattle.std.specs.Prelude.{ℕ, ◌+◌, List, filter, map, slice_range}
 use Rattle.dash_base.specs.Segment.{SegmentView}
 use Rattle.elf_load.specs.Image.{ImageView}
 use Rattle.elf_load.specs.Header.{file_header, program_headers}
-use Rattle.elf_load.specs.Refusal.{is_segment, IsFirst}
+use Rattle.elf_load.specs.Refusal.{is_segment, IsFirstRefusal}
 use Rattle.elf_load.specs.declared.header.ProgramHeader.{ProgramHeader}
 use Rattle.elf_load.specs.declared.memory_map.MemoryMap.{MemoryMap}
 use Rattle.elf_load.specs.declared.refusal.LoadRefusal.{LoadRefusal}
@@ -32,4 +32,4 @@ image_of bytes = record {
 -- an answer for a file that is refused is the refusal that it gets; want of memory may stand in its place, and for no cause
 abbrev pub Refuses : List ℕ → MemoryMap → LoadRefusal → Type 0
 Refuses bytes memory OutOfMemory = Unit {0}
-Refuses bytes memory refusal = IsFirst bytes memory refusal
+Refuses bytes memory refusal = IsFirstRefusal bytes memory refusal

@@ -152,7 +152,7 @@ IsUpTo refusal other =
     ⊎ ((header_of refusal ≡ header_of other) × (second_header_of refusal ≤ second_header_of other))
 
 -- the refusal that a file gets: of those that apply, the one of the least number, with the least headers
-pub record IsFirst (bytes : List ℕ) (map : MemoryMap) (refusal : LoadRefusal) : Type 0 where
+pub record IsFirstRefusal (bytes : List ℕ) (map : MemoryMap) (refusal : LoadRefusal) : Type 0 where
   pub applies : Applies bytes map refusal
   pub none_before : (other : LoadRefusal) → number_of other < number_of refusal → Applies bytes map other → ⊥
   pub least : (other : LoadRefusal) → number_of other ≡ number_of refusal → Applies bytes map other → IsUpTo refusal other

@@ -1,17 +1,18 @@
 //! The refusals that the file header alone decides.
 ghost use Rattle.std.specs.Prelude.{◌≡◌, false, MatchOption, IfNone};
-ghost use Rattle.elf_load.specs.Refusal.{is_short, is_elf, is_class_32_little, is_riscv, is_executable, is_compressed, is_reduced, has_other_headers, IsFirst};
+ghost use Rattle.elf_load.specs.Refusal.{is_short, is_elf, is_class_32_little, is_riscv, is_executable, is_compressed, is_reduced, has_other_headers, IsFirstRefusal};
 ghost use Rattle.elf_load.specs.Stages.{IsClear};
 ghost use Rattle.elf_load.specs.declared.memory_map.MemoryMap.{MemoryMap};
 
 use crate::header::{
-    EF_RISCV_RVC, EF_RISCV_RVE, ELFCLASS32, ELFDATA2LSB, EM_RISCV, ET_EXEC, FileHeader, ProgramHeader,
+    EF_RISCV_RVC, EF_RISCV_RVE, ELFCLASS32, ELFDATA2LSB, EM_RISCV, ET_EXEC, FileHeader,
+    ProgramHeader,
 };
 use crate::refusal::LoadRefusal;
 
 /// The first of the refusals 1 to 8 that applies.
 pub fn file_refusal(bytes: &[u8]) -> Option<LoadRefusal>
-    ensures first { (map : MemoryMap) → MatchOption result (IsClear 9 bytes.now map) (IsFirst bytes.now map) }
+    ensures first { (map : MemoryMap) → MatchOption result (IsClear 9 bytes.now map) (IsFirstRefusal bytes.now map) }
     ensures whole { IfNone result (is_short bytes.now ≡ false) }
 {
     if is_short(bytes) {

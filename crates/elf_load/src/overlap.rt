@@ -9,18 +9,27 @@ use crate::segment_table::Numbered;
 pub fn first_overlap(segments: &[Numbered]) -> Option<(u32, u32)>
     ensures { result ≡ first_overlap segments.now }
 {
-    let first = first_clashing(segments)?;
-    let second = segments.iter().find(|segment| clashes(first, segment))?;
-    Some((first.number, second.number))
+    match first_clashing(segments) {
+        None => None,
+        Some(first) => match first_sharing(segments, first) {
+            None => None,
+            Some(second) => Some((first.number, second.number)),
+        },
+    }
 }
 
 /// The first segment that shares an address with another.
 fn first_clashing(segments: &[Numbered]) -> Option<&Numbered>
     ensures { option_copied result ≡ find (has_clash segments.now) segments.now }
 {
-    segments
-        .iter()
-        .find(|segment| has_clash(segments, segment))
+    segments.iter().find(|segment| has_clash(segments, segment))
+}
+
+/// The first other segment that shares an address with this one.
+fn first_sharing<'a>(segments: &'a [Numbered], segment: &Numbered) -> Option<&'a Numbered>
+    ensures { option_copied result ≡ find (clashes segment.now) segments.now }
+{
+    segments.iter().find(|other| clashes(segment, other))
 }
 
 /// Whether some segment of the list shares an address with this one.

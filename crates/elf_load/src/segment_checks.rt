@@ -1,7 +1,7 @@
 //! The refusals that the segments decide.
 ghost use Rattle.std.specs.Prelude.{◌≡◌, false, MatchOption};
-ghost use Rattle.elf_load.specs.Header.{file_header};
-ghost use Rattle.elf_load.specs.Refusal.{is_short, is_out_of_file, is_above_memory_size, is_out_of_memory, IsFirst, IsLoadable};
+ghost use Rattle.std.specs.List.{list_any};
+ghost use Rattle.elf_load.specs.Refusal.{is_short, is_out_of_file, is_above_memory_size, is_out_of_memory, IsFirstRefusal, IsLoadable};
 ghost use Rattle.elf_load.specs.Stages.{IsClear};
 ghost use Rattle.elf_load.specs.Table.{numbered_segments, first_failing, has_word_at, is_executable_among};
 
@@ -18,7 +18,7 @@ pub fn segment_refusal(bytes: &[u8], segments: &[Numbered], map: MemoryMap) -> O
     requires whole { is_short bytes.now ≡ false }
     requires clear { IsClear 9 bytes.now map }
     requires table { segments.now ≡ numbered_segments bytes.now }
-    ensures { MatchOption result (IsLoadable bytes.now map) (IsFirst bytes.now map) }
+    ensures { MatchOption result (IsLoadable bytes.now map) (IsFirstRefusal bytes.now map) }
 {
     let entry = FileHeader::read(bytes).e_entry;
     if let Some(i) = first_out_of_file(segments, bytes.len()) {
@@ -73,7 +73,16 @@ fn first_out_of_memory(segments: &[Numbered], map: MemoryMap) -> Option<u32>
 fn is_executable(segments: &[Numbered], address: u32) -> bool
     ensures { result ≡ is_executable_among segments.now address }
 {
-    address % 4 == 0 && segments.iter().any(|segment| has_word_at(segment.header, address))
+    address % 4 == 0 && is_word_of_code(segments, address)
+}
+
+/// Whether one segment that may be executed has all four bytes from an address on.
+fn is_word_of_code(segments: &[Numbered], address: u32) -> bool
+    ensures { result ≡ list_any (λ s. has_word_at address s.header) segments.now }
+{
+    segments
+        .iter()
+        .any(|segment| has_word_at(segment.header, address))
 }
 
 fn is_out_of_file(header: ProgramHeader, len: usize) -> bool

@@ -17,6 +17,7 @@ pub struct Numbered {
 }
 
 /// The segments of a file, in the order of their program headers.
+#[tactic(auto, unfolding(crate::specs::Table::numbered_segments))]
 pub fn segment_table(alloc: Global, bytes: &[u8]) -> Result<Vec<Numbered>, OutOfMemory>
     requires { is_short bytes.now ≡ false }
     ensures { IfOk result (λ segments. segments.items ≡ numbered_segments bytes.now) }

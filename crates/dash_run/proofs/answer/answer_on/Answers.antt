@@ -12,7 +12,7 @@ returns c = record {
   base = c.map_of.ensures.base;
   size = c.map_of.ensures.size;
   refusal = c.in-Err.refusal;
-  refused = refusal_applies _ c.in-Err.refusal (search rules) (search rules);
+  refused = refusal_applies c.args.bytes.items c.map_of.result c.in-Err.refusal (search rules) (search rules);
   status_is = refl;
   text_is = search rules;
 }
