@@ -6,3 +6,4 @@ pub mod Listed
 pub mod Order
 pub mod SegmentRows
 pub mod Images
+pub mod Opened

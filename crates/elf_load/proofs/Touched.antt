@@ -12,7 +12,7 @@ map_or-cond : (f : SegmentView → ℕ) (b : Bool) (s : SegmentView) (o : Option
 map_or-cond f true s o = refl
 map_or-cond f false s o = refl
 
-byte_among-cons : (s : SegmentView) (ss : List SegmentView) (at : ℕ) → byte_among (s ∷ ss) at ≡ cond (holds at s) (slice_index s.bytes (at - s.vaddr)) (byte_among ss at)
+pub byte_among-cons : (s : SegmentView) (ss : List SegmentView) (at : ℕ) → byte_among (s ∷ ss) at ≡ cond (holds at s) (slice_index s.bytes (at - s.vaddr)) (byte_among ss at)
 unfolding byte_among
 byte_among-cons s ss at = map_or-cond (λ s. slice_index s.bytes (at - s.vaddr)) (holds at s) s (find (holds at) ss)
 

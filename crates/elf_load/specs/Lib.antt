@@ -6,3 +6,4 @@ pub mod Refusal
 pub mod Loader
 pub mod Table
 pub mod Stages
+pub mod Opening

@@ -3,7 +3,7 @@ ghost use Rattle.std.specs.Prelude.{◌≡◌, ◌*◌, ◌↔◌, false, IfOk, 
 ghost use Rattle.elf_load.specs.Image.{ImageView, opening_byte, opening_word, opening_words, fetched, is_writable, HasReadOnlyByte};
 
 use crate::memory_map::MemoryMap;
-use crate::segments;
+use crate::{opening, segments};
 use dash_base::{OutOfMemory, Segment};
 use std::alloc::Global;
 use std::marker::Model;
@@ -86,6 +86,6 @@ impl Image {
         ensures words { IfOk result (λ words. words.items ≡ opening_words self.now map) }
         ensures len { IfOk result (λ words. vec_len words * 4 ≡ map.size) }
     {
-        segments::words(alloc, &self.segments, map)
+        opening::words(alloc, &self.segments, map)
     }
 }

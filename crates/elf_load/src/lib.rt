@@ -15,6 +15,7 @@ mod header;
 mod image;
 mod loader;
 mod memory_map;
+mod opening;
 mod overlap;
 mod refusal;
 mod segment_checks;

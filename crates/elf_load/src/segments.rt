@@ -1,13 +1,11 @@
 //! What a list of segments has at an address.
-ghost use Rattle.std.specs.Prelude.{◌≡◌, ◌+◌, ◌*◌, ◌<◌, ◌≤◌, ◌^◌, length, option_copied, find, IfOk, IfSome, vec_len};
+ghost use Rattle.std.specs.Prelude.{◌≡◌, ◌+◌, ◌<◌, ◌≤◌, ◌^◌, length, option_copied, find, IfSome};
 ghost use Rattle.std.specs.List.{list_any};
 ghost use Rattle.elf_load.specs.Touched.{touches, HoldsWord};
-ghost use Rattle.elf_load.specs.Image.{holds, covers, meets, may_execute, may_write, is_code_at, is_read_only_at, byte_among, word_among, words_among};
+ghost use Rattle.elf_load.specs.Image.{holds, covers, meets, may_execute, may_write, is_code_at, is_read_only_at, byte_among, word_among};
 
-use crate::memory_map::MemoryMap;
 use byteorder::{ByteOrder, LittleEndian};
-use dash_base::{OutOfMemory, Segment};
-use std::alloc::Global;
+use dash_base::Segment;
 
 /// Whether the address is one of the bytes that the segment begins with.
 fn holds(segment: &Segment, address: u64) -> bool
@@ -127,19 +125,6 @@ fn word_by_bytes(segments: &[Segment], address: u64) -> u32
         byte_at(segments, address + 2),
         byte_at(segments, address + 3),
     ])
-}
-
-/// The words of the opening memory.
-#[tactic(auto, unfolding(crate::specs::Image::words_among))]
-pub fn words(alloc: Global, segments: &[Segment], map: MemoryMap) -> Result<Vec<u32>, OutOfMemory>
-    ensures words { IfOk result (λ words. words.items ≡ words_among segments.now map) }
-    ensures len { IfOk result (λ words. vec_len words * 4 ≡ map.size) }
-{
-    Ok(
-        (0..map.size / 4)
-            .map(|i| word_at(segments, map.base + 4 * i))
-            .collect(alloc)?,
-    )
 }
 
 /// Whether one segment that may be executed has all four bytes from an address on.
