@@ -7,3 +7,4 @@ pub mod Order
 pub mod SegmentRows
 pub mod Images
 pub mod Opened
+pub mod Apart

@@ -98,7 +98,7 @@ clear_to_12 bytes map segments is clear in_file in_size in_memory =
 
 -- ---- overlaps
 
-clash_numbers : (a b : Numbered) → clashes a b ≡ true → a.number ≢ b.number
+pub clash_numbers : (a b : Numbered) → clashes a b ≡ true → a.number ≢ b.number
 clash_numbers a b e = λ same. grind (arith, nat_tests)
 
 clash_shares : (a b : Numbered) → clashes a b ≡ true → SharesAddress a.header b.header
@@ -108,7 +108,7 @@ clash_shares a b e = record {
   in_second = record { start = grind (arith, nat_tests); end = grind (arith, nat_tests) };
 }
 
-clash_back : (a b : Numbered) → clashes a b ≡ true → clashes b a ≡ true
+pub clash_back : (a b : Numbered) → clashes a b ≡ true → clashes b a ≡ true
 clash_back a b e = grind (arith, nat_tests)
 
 shared_clash : (a b : Numbered) (address : ℕ) → a.number ≢ b.number → IsWithin address a.header → IsWithin address b.header → clashes a b ≡ true

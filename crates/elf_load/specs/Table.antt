@@ -1,5 +1,5 @@
 -- The segments of a file as a list, by their program headers, each with its number.
-use Rattle.std.specs.Prelude.{◌≤◌, ℕ, ◌+◌, ◌%◌, min, max, Bool, ◌==◌, ◌&&◌, not, nat_le, nat_lt, Option, List, map, filter, find}
+use Rattle.std.specs.Prelude.{◌≤◌, ℕ, ◌+◌, ◌%◌, min, max, Bool, ◌==◌, ◌&&◌, not, nat_le, nat_lt, true, Option, List, [], ◌∷◌, map, filter, find}
 use Rattle.std.specs.List.{list_any, range_with_len}
 use Rattle.std.specs.Option.{option_map, option_and_then}
 use Rattle.elf_load.specs.Bits.{has_bit}
@@ -35,6 +35,12 @@ has_clash segments a = list_any (clashes a) segments
 abbrev pub first_overlap : List Numbered → Option (ℕ × ℕ)
 first_overlap segments =
     option_and_then (λ a. option_map (λ b. (a.number, b.number)) (find (clashes a) segments)) (find (has_clash segments) segments)
+
+-- whether each segment of a list begins at an address or behind it, and where the one before it ends or behind
+abbrev pub rises_from : ℕ → List Numbered → Bool
+rises_from reach [] = true
+rises_from reach (s ∷ segments) =
+    not (nat_lt (s.header).p_vaddr reach) && rises_from ((s.header).p_vaddr + (s.header).p_memsz) segments
 
 -- whether a segment may be executed and has all four bytes from an address on
 abbrev pub has_word_at : ℕ → ProgramHeader → Bool

@@ -54,7 +54,7 @@ pub fn load(alloc: Global, bytes: &[u8], map: MemoryMap) -> Result<Image, LoadRe
         return Err(refusal);
     }
     let segments = segment_table(alloc, bytes)?;
-    match segment_refusal(bytes, segments.as_slice(), map) {
+    match segment_refusal(alloc, bytes, segments.as_slice(), map)? {
         Some(refusal) => Err(refusal),
         None => Ok(image(alloc, bytes, segments.as_slice())?),
     }

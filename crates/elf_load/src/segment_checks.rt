@@ -1,8 +1,9 @@
 //! The refusals that the segments decide.
-ghost use Rattle.std.specs.Prelude.{◌≡◌, false, MatchOption};
+ghost use Rattle.std.specs.Prelude.{◌≡◌, false, IfOk, MatchOption};
 ghost use Rattle.std.specs.List.{list_any};
 ghost use Rattle.elf_load.specs.Refusal.{is_short, is_out_of_file, is_above_memory_size, is_out_of_memory, IsFirstRefusal, IsLoadable};
 ghost use Rattle.elf_load.specs.Stages.{IsClear};
+ghost use Rattle.elf_load.specs.declared.memory_map.MemoryMap.{MemoryMap};
 ghost use Rattle.elf_load.specs.Table.{numbered_segments, first_failing, has_word_at, is_executable_among};
 
 use crate::header::{FileHeader, ProgramHeader};
@@ -10,26 +11,56 @@ use crate::memory_map::MemoryMap;
 use crate::overlap::first_overlap;
 use crate::refusal::LoadRefusal;
 use crate::segment_table::Numbered;
-use dash_base::Segment;
+use dash_base::{OutOfMemory, Segment};
+use std::alloc::Global;
 
 /// The first of the refusals 9 to 14 that applies, to a file with these segments to which none of those
 /// before does.
-pub fn segment_refusal(bytes: &[u8], segments: &[Numbered], map: MemoryMap) -> Option<LoadRefusal>
+pub fn segment_refusal(
+    alloc: Global,
+    bytes: &[u8],
+    segments: &[Numbered],
+    map: MemoryMap,
+) -> Result<Option<LoadRefusal>, OutOfMemory>
     requires whole { is_short bytes.now ≡ false }
     requires clear { IsClear 9 bytes.now map }
     requires table { segments.now ≡ numbered_segments bytes.now }
-    ensures { MatchOption result (IsLoadable bytes.now map) (IsFirstRefusal bytes.now map) }
+    ensures { IfOk result (λ refusal. MatchOption refusal (IsLoadable bytes.now map) (IsFirstRefusal bytes.now map)) }
 {
-    let entry = FileHeader::read(bytes).e_entry;
+    if let Some(refusal) = bounds_refusal(bytes, segments, map) {
+        return Ok(Some(refusal));
+    }
+    match first_overlap(alloc, segments)? {
+        Some((i, j)) => Ok(Some(LoadRefusal::Overlap { i, j })),
+        None => Ok(entry_refusal(bytes, segments)),
+    }
+}
+
+/// The first of the refusals 9 to 11 that applies.
+fn bounds_refusal(bytes: &[u8], segments: &[Numbered], map: MemoryMap) -> Option<LoadRefusal>
+    requires clear { IsClear 9 bytes.now map }
+    requires table { segments.now ≡ numbered_segments bytes.now }
+    ensures { MatchOption result (IsClear 12 bytes.now map) (IsFirstRefusal bytes.now map) }
+{
     if let Some(i) = first_out_of_file(segments, bytes.len()) {
         Some(LoadRefusal::SegmentOutOfFile { i })
     } else if let Some(i) = first_above_memory_size(segments) {
         Some(LoadRefusal::FileSizeAboveMemory { i })
     } else if let Some(i) = first_out_of_memory(segments, map) {
         Some(LoadRefusal::SegmentOutOfMemory { i })
-    } else if let Some((i, j)) = first_overlap(segments) {
-        Some(LoadRefusal::Overlap { i, j })
-    } else if segments.is_empty() {
+    } else {
+        None
+    }
+}
+
+/// The first of the refusals 13 and 14 that applies.
+fn entry_refusal(bytes: &[u8], segments: &[Numbered]) -> Option<LoadRefusal>
+    requires whole { is_short bytes.now ≡ false }
+    requires table { segments.now ≡ numbered_segments bytes.now }
+    ensures { (map : MemoryMap) → IsClear 13 bytes.now map → MatchOption result (IsLoadable bytes.now map) (IsFirstRefusal bytes.now map) }
+{
+    let entry = FileHeader::read(bytes).e_entry;
+    if segments.is_empty() {
         Some(LoadRefusal::NoSegment)
     } else if !is_executable(segments, entry) {
         Some(LoadRefusal::EntryNotExecutable { entry })
