@@ -2,17 +2,8 @@
 use Rattle.std.proofs.Common.{◌≡◌, ◌≤◌, ◌<◌, ℕ, Bool, true, false, cond, ◌||◌, ◌⊎◌, inl, inr, List, [], ◌∷◌, Option, Some, None, find, refl, sym, ◌∙◌, ap, arith}
 use Rattle.std.specs.List.{list_any, All}
 use Rattle.std.proofs.lemmas.List.Elements.{All-nil, All-cons}
+use Rattle.elf_load.specs.Table.{Among, Rising}
 use Rattle.elf_load.specs.declared.segment_table.Numbered.{Numbered}
-
--- x is an element of the list
-abbrev pub Among : Numbered → List Numbered → Type 0
-Among x [] = ⊥
-Among x (y ∷ ys) = (x ≡ y) ⊎ Among x ys
-
--- the numbers rise along the list
-abbrev pub Rising : List Numbered → Type 0
-Rising [] = Unit {0}
-Rising (y ∷ ys) = ((z : Numbered) → Among z ys → y.number < z.number) × Rising ys
 
 found_in : (b : Bool) (p : Numbered → Bool) (y : Numbered) (ys : List Numbered) (x : Numbered) → p y ≡ b → cond b (Some y) (find p ys) ≡ Some x
     → (find p ys ≡ Some x → Among x ys × (p x ≡ true)) → ((x ≡ y) ⊎ Among x ys) × (p x ≡ true)

@@ -6,9 +6,9 @@ use Rattle.std.proofs.Math.Seq.{drop-cons}
 use Rattle.std.specs.List.Sorted.{IsPermutation}
 use Rattle.std.proofs.lemmas.Bool.Decides.{nat_tests}
 use Rattle.std.proofs.lemmas.List.Sorted.{Contains-permutation}
-use Rattle.elf_load.specs.Table.{clashes, has_clash, first_overlap, rises_from}
+use Rattle.elf_load.specs.Table.{Among, clashes, has_clash, first_overlap, rises_from}
 use Rattle.elf_load.specs.declared.segment_table.Numbered.{Numbered}
-use Rattle.elf_load.proofs.Among.{Among, find_some, any_passing}
+use Rattle.elf_load.proofs.Among.{find_some, any_passing}
 use Rattle.elf_load.proofs.SegmentRows.{clash_numbers, clash_back}
 
 both : (s t : Bool) → (s && t) ≡ true → (s ≡ true) × (t ≡ true)
@@ -77,11 +77,6 @@ pub among_permutation : (xs ys : List Numbered) (x : Numbered) → IsPermutation
 among_permutation xs ys x moved among =
     let there = Contains-permutation xs ys x moved (place_of xs x among) in
     at_place ys x x there.0 there.1 there.2
-
-pub rising_apart_by_address : (segments sorted : List Numbered) → IsPermutation segments sorted → rises_from 0 sorted ≡ true → None ≡ first_overlap segments
-rising_apart_by_address segments sorted moved rises =
-    sym (no_overlap segments (find (has_clash segments) segments) refl (λ x y in_x in_y clash.
-    apart 0 sorted x y rises (among_permutation segments sorted x moved in_x) (among_permutation segments sorted y moved in_y) clash))
 
 -- one step of the test
 pub rises_step : (reach : ℕ) (segments : List Numbered) (i : ℕ) (s : Numbered) → i < length segments → s ≡ get_or segments i s

@@ -8,3 +8,4 @@ pub mod SegmentRows
 pub mod Images
 pub mod Opened
 pub mod Apart
+pub mod Scanned

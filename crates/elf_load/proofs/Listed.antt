@@ -6,10 +6,9 @@ use Rattle.dash_base.specs.Segment.{SegmentView}
 use Rattle.elf_load.specs.Header.{file_header, header_at}
 use Rattle.elf_load.specs.Refusal.{is_segment, IsSegmentAt}
 use Rattle.elf_load.specs.Loader.{segment_headers}
-use Rattle.elf_load.specs.Table.{numbered_at, numbered_segments}
+use Rattle.elf_load.specs.Table.{Among, Rising, numbered_at, numbered_segments}
 use Rattle.elf_load.specs.declared.header.ProgramHeader.{ProgramHeader}
 use Rattle.elf_load.specs.declared.segment_table.Numbered.{Numbered}
-use Rattle.elf_load.proofs.Among.{Among, Rising}
 
 pub first_or_later : (a i : ℕ) → a ≤ i → (i ≡ a) ⊎ (a + 1 ≤ i)
 first_or_later a i low = cases (eqb_tells i a) where

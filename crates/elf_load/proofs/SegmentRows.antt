@@ -5,14 +5,14 @@ use Rattle.std.specs.Option.{option_map, option_and_then}
 use Rattle.std.proofs.lemmas.Bool.Decides.{nat_tests, eqb_tells}
 use Rattle.elf_load.specs.Bits.{has_bit}
 use Rattle.elf_load.specs.Header.{file_header, header_at}
-use Rattle.elf_load.specs.Refusal.{is_out_of_file, is_above_memory_size, is_out_of_memory, IsSegmentAt, FailsAt, IsWithin, SharesAddress, OverlapsAt, IsExecutable, IsFirstRefusal, IsLoadable}
+use Rattle.elf_load.specs.Refusal.{is_segment, is_out_of_file, is_above_memory_size, is_out_of_memory, IsSegmentAt, FailsAt, IsWithin, SharesAddress, OverlapsAt, IsExecutable, IsFirstRefusal, IsLoadable}
 use Rattle.elf_load.specs.Stages.{IsClear}
-use Rattle.elf_load.specs.Table.{numbered_at, numbered_segments, first_failing, clashes, has_clash, first_overlap, has_word_at, is_executable_among, HasBytes}
+use Rattle.elf_load.specs.Table.{Among, IsTable, numbered_at, numbered_segments, first_failing, clashes, has_clash, first_overlap, has_word_at, is_executable_among, HasBytes}
 use Rattle.elf_load.specs.declared.header.ProgramHeader.{ProgramHeader}
 use Rattle.elf_load.specs.declared.memory_map.MemoryMap.{MemoryMap}
 use Rattle.elf_load.specs.declared.refusal.LoadRefusal.TheVariants.{SegmentOutOfFile, FileSizeAboveMemory, SegmentOutOfMemory, Overlap, NoSegment, EntryNotExecutable}
 use Rattle.elf_load.specs.declared.segment_table.Numbered.{Numbered}
-use Rattle.elf_load.proofs.Among.{Among, Passing, find_some, find_none, find_least, any_at, any_passing, all_among}
+use Rattle.elf_load.proofs.Among.{Passing, find_some, find_none, find_least, any_at, any_passing, all_among}
 use Rattle.elf_load.proofs.Listed.{listed, is_listed, is_segment_at, rising}
 use Rattle.elf_load.proofs.Order.{CauseOf, next_clear, first_of_number, first_without_header, loadable}
 
@@ -299,6 +299,19 @@ in_file false len header t fails = grind (arith, nat_tests)
 in_memory_size : (b : Bool) (header : ProgramHeader) → is_above_memory_size header ≡ b → (b ≡ true → ⊥) → header.p_filesz ≤ header.p_memsz
 in_memory_size true header t fails = absurd (fails refl)
 in_memory_size false header t fails = grind (arith, nat_tests)
+
+in_memory : (header : ProgramHeader) → is_segment header ≡ true → header.p_filesz ≤ header.p_memsz → 0 < header.p_memsz
+in_memory header t room = grind (arith, nat_tests)
+
+-- the segments of which none has more bytes in the file than in memory have some in memory
+pub is_table : (bytes : List ℕ) (map : MemoryMap) (segments : List Numbered) → segments ≡ numbered_segments bytes → IsClear 12 bytes map → IsTable segments
+is_table bytes map segments is clear =
+    subst IsTable (sym is) (record {
+      rising = rising bytes;
+      in_memory = λ s among.
+          in_memory s.header (ap is_segment (header_is bytes s among) ∙ (is_segment_at bytes s among).segment)
+          (in_memory_size (is_above_memory_size s.header) s.header refl (λ t. clear.none_before (FileSizeAboveMemory s.number) (omega arith) (fails_there is_above_memory_size bytes s among t)));
+    })
 
 pub segments_have_bytes : (bytes : List ℕ) (map : MemoryMap) (segments : List Numbered) → segments ≡ numbered_segments bytes → IsLoadable bytes map → All (HasBytes (length bytes)) segments
 segments_have_bytes bytes map segments is accepted =

@@ -1,5 +1,5 @@
 -- The segments of a file as a list, by their program headers, each with its number.
-use Rattle.std.specs.Prelude.{◌≤◌, ℕ, ◌+◌, ◌%◌, min, max, Bool, ◌==◌, ◌&&◌, not, nat_le, nat_lt, true, Option, List, [], ◌∷◌, map, filter, find}
+use Rattle.std.specs.Prelude.{◌≡◌, ◌<◌, ◌≤◌, ◌⊎◌, ℕ, ◌+◌, ◌%◌, min, max, Bool, ◌==◌, ◌&&◌, ◌||◌, not, nat_le, nat_lt, true, false, if◌then◌else◌, Option, Some, None, List, [], ◌∷◌, map, filter, find}
 use Rattle.std.specs.List.{list_any, range_with_len}
 use Rattle.std.specs.Option.{option_map, option_and_then}
 use Rattle.elf_load.specs.Bits.{has_bit}
@@ -17,6 +17,21 @@ unfoldable pub numbered_segments : List ℕ → List Numbered
 numbered_segments bytes =
     filter (λ s. is_segment s.header) (map (numbered_at bytes) (range_with_len 0 (file_header bytes).e_phnum))
 
+-- x is a segment of the list
+abbrev pub Among : Numbered → List Numbered → Type 0
+Among x [] = ⊥
+Among x (y ∷ ys) = (x ≡ y) ⊎ Among x ys
+
+-- the numbers rise along the list
+abbrev pub Rising : List Numbered → Type 0
+Rising [] = Unit {0}
+Rising (y ∷ ys) = ((z : Numbered) → Among z ys → y.number < z.number) × Rising ys
+
+-- the segments of a file that have bytes in memory
+pub record IsTable (segments : List Numbered) : Type 0 where
+  pub rising : Rising segments
+  pub in_memory : (s : Numbered) → Among s segments → 0 < (s.header).p_memsz
+
 -- the number of the first segment that fails by a test
 abbrev pub first_failing : (ProgramHeader → Bool) → List Numbered → Option ℕ
 first_failing test segments = option_map (λ s. s.number) (find (λ s. test s.header) segments)
@@ -31,16 +46,39 @@ clashes a b =
 abbrev pub has_clash : List Numbered → Numbered → Bool
 has_clash segments a = list_any (clashes a) segments
 
+-- the number of a segment, and that of the first other one of a list that it shares an address with
+abbrev pub pair_of : List Numbered → Option Numbered → Option (ℕ × ℕ)
+pair_of segments first = option_and_then (λ a. option_map (λ b. (a.number, b.number)) (find (clashes a) segments)) first
+
 -- the numbers of the first segment that shares an address with another one, and of the first that it shares one with
 abbrev pub first_overlap : List Numbered → Option (ℕ × ℕ)
-first_overlap segments =
-    option_and_then (λ a. option_map (λ b. (a.number, b.number)) (find (clashes a) segments)) (find (has_clash segments) segments)
+first_overlap segments = pair_of segments (find (has_clash segments) segments)
 
 -- whether each segment of a list begins at an address or behind it, and where the one before it ends or behind
 abbrev pub rises_from : ℕ → List Numbered → Bool
 rises_from reach [] = true
 rises_from reach (s ∷ segments) =
     not (nat_lt (s.header).p_vaddr reach) && rises_from ((s.header).p_vaddr + (s.header).p_memsz) segments
+
+-- whether the first segment of a list begins before an address
+abbrev pub begins_before : ℕ → List Numbered → Bool
+begins_before end [] = false
+begins_before end (s ∷ segments) = nat_lt (s.header).p_vaddr end
+
+-- of two segments that of the lower number, where there are two
+abbrev pub lower : Option Numbered → Numbered → Option Numbered
+lower None s = Some s
+lower (Some x) s = if nat_lt s.number x.number then Some s else Some x
+
+-- Of segments by address, that of the least number that begins before an earlier one ends, or ends after a later one begins;
+-- those before end before `reach`, and have this one.
+abbrev pub least_clashing_from : ℕ → Option Numbered → List Numbered → Option Numbered
+least_clashing_from reach least [] = least
+least_clashing_from reach least (s ∷ segments) =
+    least_clashing_from
+    (max reach ((s.header).p_vaddr + (s.header).p_memsz))
+    (if nat_lt (s.header).p_vaddr reach || begins_before ((s.header).p_vaddr + (s.header).p_memsz) segments then lower least s else least)
+    segments
 
 -- whether a segment may be executed and has all four bytes from an address on
 abbrev pub has_word_at : ℕ → ProgramHeader → Bool

@@ -1,6 +1,8 @@
 //! Segments that share an address.
-ghost use Rattle.std.specs.Prelude.{◌≡◌, option_copied, find, IfOk, IsPermutation};
-ghost use Rattle.elf_load.specs.Table.{clashes, has_clash, first_overlap, rises_from};
+ghost use Rattle.std.specs.Prelude.{◌≡◌, option_copied, find, if◌then◌else◌, None, IfOk, IsPermutation};
+ghost use Rattle.std.specs.List.Sorted.{IsNonDecreasingBy};
+ghost use Rattle.elf_load.specs.Table.{IsTable, clashes, first_overlap, pair_of, rises_from, begins_before, lower, least_clashing_from};
+ghost use Rattle.elf_load.specs.declared.segment_table.Numbered.{Numbered};
 
 use crate::segment_table::Numbered;
 use dash_base::OutOfMemory;
@@ -9,34 +11,40 @@ use std::alloc::Global;
 /// The numbers of the first segment that shares an address with another, and of the first other one
 /// that it shares one with.
 ///
-/// Segments in rising order of their addresses take one pass.
+/// Segments in rising order of their addresses take one pass; others are sorted by them.
 pub fn first_overlap(
     alloc: Global,
     segments: &[Numbered],
 ) -> Result<Option<(u32, u32)>, OutOfMemory>
+    requires { IsTable segments.now }
     ensures { IfOk result (λ pair. pair ≡ first_overlap segments.now) }
 {
     if rises(segments) {
         return Ok(None);
     }
     let sorted = by_address(alloc, segments)?;
-    if rises(sorted.as_slice()) {
-        return Ok(None);
-    }
-    Ok(first_pair(segments))
+    let first = least_clashing(sorted.as_slice());
+    Ok(pair(segments, first))
 }
 
-/// The same, by comparing each segment with each other.
-fn first_pair(segments: &[Numbered]) -> Option<(u32, u32)>
-    ensures { result ≡ first_overlap segments.now }
+/// The number of a segment, and that of the first one that shares an address with it.
+fn pair(segments: &[Numbered], first: Option<Numbered>) -> Option<(u32, u32)>
+    ensures { result ≡ pair_of segments.now first }
 {
-    match first_clashing(segments) {
+    match first {
         None => None,
-        Some(first) => match first_sharing(segments, first) {
+        Some(first) => match first_sharing(segments, &first) {
             None => None,
             Some(second) => Some((first.number, second.number)),
         },
     }
+}
+
+/// The first other segment that shares an address with this one.
+fn first_sharing<'a>(segments: &'a [Numbered], segment: &Numbered) -> Option<&'a Numbered>
+    ensures { option_copied result ≡ find (clashes segment.now) segments.now }
+{
+    segments.iter().find(|other| clashes(segment, other))
 }
 
 /// Whether each segment begins where the one before it ends, or behind.
@@ -55,32 +63,51 @@ fn rises(segments: &[Numbered]) -> bool
 
 /// The segments in the order of their addresses.
 fn by_address(alloc: Global, segments: &[Numbered]) -> Result<Vec<Numbered>, OutOfMemory>
-    ensures { IfOk result (λ sorted. IsPermutation segments.now sorted.items) }
+    ensures same { IfOk result (λ sorted. IsPermutation segments.now sorted.items) }
+    ensures order { IfOk result (λ sorted. IsNonDecreasingBy (λ (s : Numbered). (s.header).p_vaddr) sorted.items) }
 {
     let mut sorted: Vec<Numbered> = Vec::from_slice(alloc, segments)?;
     sorted.sort_by_key(|segment| segment.header.p_vaddr)?;
     Ok(sorted)
 }
 
-/// The first segment that shares an address with another.
-fn first_clashing(segments: &[Numbered]) -> Option<&Numbered>
-    ensures { option_copied result ≡ find (has_clash segments.now) segments.now }
+/// Of segments in the order of their addresses, the one of the least number that shares an address with
+/// another.
+fn least_clashing(sorted: &[Numbered]) -> Option<Numbered>
+    ensures { result ≡ least_clashing_from 0 None sorted.now }
 {
-    segments.iter().find(|segment| has_clash(segments, segment))
+    let mut least: Option<Numbered> = None;
+    let mut reach = 0u64;
+    let mut rest = sorted;
+    while let [segment, later @ ..] = rest {
+        let end = segment.header.segment_end();
+        let clashes = u64::from(segment.header.p_vaddr) < reach || begins_before(later, end);
+        least = lower_where(clashes, least, segment);
+        reach = reach.max(end);
+        rest = later;
+    }
+    least
 }
 
-/// The first other segment that shares an address with this one.
-fn first_sharing<'a>(segments: &'a [Numbered], segment: &Numbered) -> Option<&'a Numbered>
-    ensures { option_copied result ≡ find (clashes segment.now) segments.now }
+/// Whether the first of these segments begins before an address.
+fn begins_before(segments: &[Numbered], end: u64) -> bool
+    ensures { result ≡ begins_before end segments.now }
 {
-    segments.iter().find(|other| clashes(segment, other))
+    match segments {
+        [first, ..] => u64::from(first.header.p_vaddr) < end,
+        [] => false,
+    }
 }
 
-/// Whether some segment of the list shares an address with this one.
-fn has_clash(segments: &[Numbered], segment: &Numbered) -> bool
-    ensures { result ≡ has_clash segments.now segment.now }
+/// Of the two the one of the lower number, where the second counts.
+fn lower_where(counts: bool, least: Option<Numbered>, segment: &Numbered) -> Option<Numbered>
+    ensures { result ≡ (if counts then lower least segment.now else least) }
 {
-    segments.iter().any(|other| clashes(segment, other))
+    match least {
+        _ if !counts => least,
+        Some(lowest) if lowest.number <= segment.number => least,
+        _ => Some(*segment),
+    }
 }
 
 /// Whether the segments are two, and share an address.
