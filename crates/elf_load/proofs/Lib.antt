@@ -9,3 +9,6 @@ pub mod Images
 pub mod Opened
 pub mod Apart
 pub mod Scanned
+pub mod FileRows
+pub mod Decided
+pub mod Sound

@@ -1,5 +1,5 @@
 -- The list of segments has exactly the program headers of segments, and their numbers rise.
-use Rattle.std.proofs.Common.{◌≡◌, ◌≤◌, ◌<◌, ◌+◌, ℕ, zero, suc, Bool, true, false, cond, ◌⊎◌, ◌≢◌, inl, inr, eqb, List, [], ◌∷◌, filter, map, refl, sym, ◌∙◌, ap, arith}
+use Rattle.std.proofs.Common.{◌≡◌, ◌≤◌, ◌<◌, ◌+◌, ℕ, zero, suc, Bool, true, false, cond, ◌⊎◌, ◌≢◌, inl, inr, eqb, List, ◌∷◌, filter, map, refl, sym, ◌∙◌, ap, arith}
 use Rattle.std.specs.List.{range_with_len}
 use Rattle.std.proofs.lemmas.Bool.Decides.{eqb_tells}
 use Rattle.dash_base.specs.Segment.{SegmentView}

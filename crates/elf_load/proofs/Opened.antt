@@ -1,5 +1,5 @@
 -- The memory that a run opens with, put together from the last segment to the first.
-use Rattle.std.proofs.Common.{◌≡◌, ◌≢◌, ◌≤◌, ◌<◌, ◌+◌, ◌-◌, ◌*◌, ◌/◌, ◌⊎◌, ℕ, zero, suc, inl, inr, Bool, true, false, cond, ◌&&◌, nat_lt, eqb, List, [], ◌∷◌, map, length, drop, set, get_or, replicate, slice_index, max, min, refl, sym, ◌∙◌, ap, subst, arith, get_or-set_same, get_or-set_other}
+use Rattle.std.proofs.Common.{◌≡◌, ◌≢◌, ◌≤◌, ◌<◌, ◌+◌, ◌-◌, ◌*◌, ◌/◌, ◌⊎◌, ℕ, zero, suc, inl, inr, Bool, true, false, cond, ◌&&◌, nat_lt, eqb, List, [], ◌∷◌, map, length, drop, set, get_or, replicate, max, min, refl, sym, ◌∙◌, ap, subst, arith, get_or-set_same, get_or-set_other}
 use Rattle.std.proofs.lemmas.List.{get_or_default}
 use Rattle.std.specs.List.{range_with_len}
 use Rattle.std.proofs.Math.Seq.{drop-cons}

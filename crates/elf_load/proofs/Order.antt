@@ -1,14 +1,14 @@
 -- The order of the refusals: what is known where none before some number applies.
-use Rattle.std.proofs.Common.{◌≡◌, ◌≤◌, ◌<◌, ◌+◌, ◌⊎◌, ◌≢◌, ℕ, inl, inr, true, false, ◌==◌, eqb, List, length, refl, sym, ◌∙◌, subst, ap, arith}
+use Rattle.std.proofs.Common.{◌≡◌, ◌≤◌, ◌<◌, ◌+◌, ◌⊎◌, ◌≢◌, ℕ, inl, inr, true, false, ◌==◌, eqb, List, length, subst, arith}
 use Rattle.std.specs.Bool.{MatchBool}
 use Rattle.std.proofs.lemmas.Bool.Decides.{eqb_tells}
 use Rattle.elf_load.specs.Header.{file_header}
-use Rattle.elf_load.specs.Refusal.{is_short, is_elf, is_class_32_little, is_riscv, is_executable, is_compressed, is_reduced, has_other_headers, is_out_of_file, is_above_memory_size, is_out_of_memory, IsSegmentAt, FailsAt, OverlapsAt, IsExecutable, Applies, number_of, header_of, second_header_of, IsUpTo, IsFirstRefusal, IsLoadable}
+use Rattle.elf_load.specs.Refusal.{is_short, is_elf, is_class_32_little, is_riscv, is_executable, is_compressed, is_reduced, has_other_headers, is_out_of_file, is_above_memory_size, is_out_of_memory, IsSegmentAt, FailsAt, OverlapsAt, IsExecutable, Applies, number_of, header_of, second_header_of, IsFirstRefusal, IsLoadable}
 use Rattle.elf_load.specs.Stages.{IsClear}
 use Rattle.elf_load.specs.Loader.{Refuses}
 use Rattle.elf_load.specs.declared.memory_map.MemoryMap.{MemoryMap}
 use Rattle.elf_load.specs.declared.refusal.LoadRefusal.{LoadRefusal}
-use Rattle.elf_load.specs.declared.refusal.LoadRefusal.TheVariants.{Short, NotElf, NotClass32Little, NotRiscv, NotExec, Compressed, Reduced, HeaderSize, SegmentOutOfFile, FileSizeAboveMemory, SegmentOutOfMemory, Overlap, NoSegment, EntryNotExecutable, OutOfMemory}
+use Rattle.elf_load.specs.declared.refusal.LoadRefusal.TheVariants.{Short, HeaderSize, EntryNotExecutable, OutOfMemory}
 
 -- the cause of the refusal with a number, at these headers
 abbrev pub CauseOf : List ℕ → MemoryMap → ℕ → ℕ → ℕ → Type 0

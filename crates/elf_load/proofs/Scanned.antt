@@ -1,6 +1,6 @@
 -- Of segments by address, the one of the least number that shares an address with another.
-use Rattle.std.proofs.Common.{◌≡◌, ◌≢◌, ◌≤◌, ◌<◌, ◌+◌, ◌⊎◌, ℕ, zero, suc, inl, inr, Bool, true, false, cond, ◌==◌, ◌&&◌, ◌||◌, not, eqb, leb, nat_lt, min, max, List, [], ◌∷◌, Option, Some, None, length, get_or, find, refl, sym, ◌∙◌, ap, subst, arith}
-use Rattle.std.specs.List.{list_any, sum_by}
+use Rattle.std.proofs.Common.{◌≡◌, ◌≢◌, ◌≤◌, ◌<◌, ◌+◌, ◌⊎◌, ℕ, suc, inl, inr, Bool, true, false, cond, ◌==◌, ◌||◌, eqb, leb, nat_lt, max, List, [], ◌∷◌, Option, Some, None, length, get_or, find, refl, sym, ◌∙◌, ap, subst, arith}
+use Rattle.std.specs.List.{sum_by}
 use Rattle.std.specs.List.Sorted.{IsPermutation, IsNonDecreasingBy}
 use Rattle.std.proofs.lemmas.Bool.Decides.{nat_tests, eqb_tells, leb_tells}
 use Rattle.std.proofs.lemmas.List.Sorted.{IsPermutation-sym, sum_by-IsPermutation}

@@ -1,5 +1,5 @@
 -- What the tests of the segments tell: the refusal of the first that fails, or that none of them applies.
-use Rattle.std.proofs.Common.{◌≡◌, ◌≢◌, ◌≤◌, ◌<◌, ◌+◌, ◌*◌, ◌%◌, ◌⊎◌, ℕ, inl, inr, Bool, true, false, ◌==◌, ◌&&◌, eqb, min, max, nat_lt, nat_le, List, [], ◌∷◌, length, Option, Some, None, find, refl, sym, ◌∙◌, ap, subst, arith}
+use Rattle.std.proofs.Common.{◌≡◌, ◌≢◌, ◌≤◌, ◌<◌, ◌+◌, ◌%◌, ◌⊎◌, ℕ, inl, inr, Bool, true, false, ◌==◌, ◌&&◌, eqb, max, nat_le, List, [], ◌∷◌, length, Option, Some, None, find, refl, sym, ◌∙◌, ap, subst, arith}
 use Rattle.std.specs.List.{list_any, All}
 use Rattle.std.specs.Option.{option_map, option_and_then}
 use Rattle.std.proofs.lemmas.Bool.Decides.{nat_tests, eqb_tells}
@@ -12,9 +12,9 @@ use Rattle.elf_load.specs.declared.header.ProgramHeader.{ProgramHeader}
 use Rattle.elf_load.specs.declared.memory_map.MemoryMap.{MemoryMap}
 use Rattle.elf_load.specs.declared.refusal.LoadRefusal.TheVariants.{SegmentOutOfFile, FileSizeAboveMemory, SegmentOutOfMemory, Overlap, NoSegment, EntryNotExecutable}
 use Rattle.elf_load.specs.declared.segment_table.Numbered.{Numbered}
-use Rattle.elf_load.proofs.Among.{Passing, find_some, find_none, find_least, any_at, any_passing, all_among}
+use Rattle.elf_load.proofs.Among.{find_some, find_none, find_least, any_at, any_passing, all_among}
 use Rattle.elf_load.proofs.Listed.{listed, is_listed, is_segment_at, rising}
-use Rattle.elf_load.proofs.Order.{CauseOf, next_clear, first_of_number, first_without_header, loadable}
+use Rattle.elf_load.proofs.Order.{next_clear, first_of_number, first_without_header, loadable}
 
 -- the header of a segment in the list
 header_is : (bytes : List ℕ) (s : Numbered) → Among s (numbered_segments bytes) → s.header ≡ header_at bytes s.number
@@ -256,7 +256,7 @@ word_test address header has =
     let high = has.end in
     and_true _ (nat_le (address + 4) (header.p_vaddr + header.p_memsz)) (and_true (has_bit 0 header.p_flags) (nat_le header.p_vaddr address) has.executable (grind (arith, nat_tests))) (grind (arith, nat_tests))
 
-executable_there : (bytes : List ℕ) (address : ℕ) → is_executable_among (numbered_segments bytes) address ≡ true → IsExecutable bytes address
+pub executable_there : (bytes : List ℕ) (address : ℕ) → is_executable_among (numbered_segments bytes) address ≡ true → IsExecutable bytes address
 executable_there bytes address e =
     let tests = both (address % 4 == 0) (list_any (λ s. has_word_at address s.header) (numbered_segments bytes)) e in
     let found = any_passing (λ s. has_word_at address s.header) (numbered_segments bytes) tests.1 in
@@ -271,7 +271,7 @@ executable_there bytes address e =
       end = word.end;
     }
 
-executable_test : (bytes : List ℕ) (address : ℕ) → IsExecutable bytes address → is_executable_among (numbered_segments bytes) address ≡ true
+pub executable_test : (bytes : List ℕ) (address : ℕ) → IsExecutable bytes address → is_executable_among (numbered_segments bytes) address ≡ true
 executable_test bytes address is =
     let aligned = is.aligned in
     and_true (address % 4 == 0) (list_any (λ s. has_word_at address s.header) (numbered_segments bytes)) (grind (arith, nat_tests))
@@ -292,11 +292,11 @@ all_clear bytes map segments entry is entry_is clear passes =
 
 -- ---- the bytes of what is accepted
 
-in_file : (b : Bool) (len : ℕ) (header : ProgramHeader) → is_out_of_file len header ≡ b → (b ≡ true → ⊥) → header.p_offset + header.p_filesz ≤ len
+pub in_file : (b : Bool) (len : ℕ) (header : ProgramHeader) → is_out_of_file len header ≡ b → (b ≡ true → ⊥) → header.p_offset + header.p_filesz ≤ len
 in_file true len header t fails = absurd (fails refl)
 in_file false len header t fails = grind (arith, nat_tests)
 
-in_memory_size : (b : Bool) (header : ProgramHeader) → is_above_memory_size header ≡ b → (b ≡ true → ⊥) → header.p_filesz ≤ header.p_memsz
+pub in_memory_size : (b : Bool) (header : ProgramHeader) → is_above_memory_size header ≡ b → (b ≡ true → ⊥) → header.p_filesz ≤ header.p_memsz
 in_memory_size true header t fails = absurd (fails refl)
 in_memory_size false header t fails = grind (arith, nat_tests)
 

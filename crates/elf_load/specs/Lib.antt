@@ -7,3 +7,4 @@ pub mod Loader
 pub mod Table
 pub mod Stages
 pub mod Opening
+pub mod Laws

@@ -13,6 +13,7 @@ pub use refusal::LoadRefusal;
 mod file_checks;
 mod header;
 mod image;
+pub mod laws;
 mod loader;
 mod memory_map;
 mod opening;

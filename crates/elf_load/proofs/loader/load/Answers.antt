@@ -1,7 +1,5 @@
 -- What is answered is the first refusal, or the image of a file that none applies to.
-use Rattle.std.proofs.Common.{rules, ◌≡◌, ◌∙◌, sym, ap, map, refl}
-use Rattle.elf_load.specs.Header.{file_header}
-use Rattle.elf_load.specs.Loader.{image_of, segment_of}
+use Rattle.std.proofs.Common.{rules}
 use Rattle.elf_load.proofs.Images.{image_is}
 use Rattle.elf_load.proofs.Order.{first_refuses}
 use Rattle.elf_load.proofs.SegmentRows.{segments_have_bytes}

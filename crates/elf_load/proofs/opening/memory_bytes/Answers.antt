@@ -1,6 +1,5 @@
-use Rattle.std.proofs.Common.{◌≡◌, ◌≤◌, ◌<◌, ◌+◌, ◌-◌, rules, List, length, drop, subst, sym, arith}
-use Rattle.elf_load.specs.Opening.{IsOpening}
-use Rattle.elf_load.proofs.Opened.{opening_none, opening_more, opening_at}
+use Rattle.std.proofs.Common.{rules, arith}
+use Rattle.elf_load.proofs.Opened.{opening_none, opening_at}
 use Rattle.elf_load.proofs.opening.memory_bytes.Goals as goal
 
 pub loop-left-init : goal.loop-left-init

@@ -1,6 +1,4 @@
-use Rattle.std.proofs.Common.{◌≡◌, ◌≤◌, ◌<◌, ◌+◌, ◌-◌, rules, length, get_or, ap, sym, ◌∙◌, min, max, arith}
-use Rattle.std.specs.Vec.{vec_len}
-use Rattle.dash_base.specs.Segment.{SegmentView}
+use Rattle.std.proofs.Common.{◌≡◌, ◌-◌, rules, get_or}
 use Rattle.elf_load.proofs.Opened.{none_put, put_at, all_put, byte_read}
 use Rattle.elf_load.proofs.opening.put.Goals as goal
 

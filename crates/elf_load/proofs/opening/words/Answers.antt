@@ -1,4 +1,4 @@
-use Rattle.std.proofs.Common.{◌≡◌, List, rules, subst, sym, ap, ◌∙◌}
+use Rattle.std.proofs.Common.{subst, sym}
 use Rattle.elf_load.specs.Opening.{IsOpening}
 use Rattle.elf_load.proofs.Opened.{opened_words}
 use Rattle.elf_load.proofs.opening.words.Goals as goal
