@@ -1,5 +1,5 @@
 -- What is owed for a file, from what the loader and the run say of it.
-use Rattle.std.proofs.Common.{◌≡◌, ℕ, inr, List, Option, Some, None, refl, subst}
+use Rattle.std.proofs.Common.{◌≡◌, ℕ, inr, List, None, refl, subst}
 use Rattle.dash_base.specs.Topology.{IsSimple, simple_refusal}
 use Rattle.dash_base.specs.declared.topology.Topology.{Topology}
 use Rattle.elf_load.specs.Image.{ImageView}
