@@ -28,7 +28,7 @@ MOST_HARTS = 4
 MOST_BUDGET = 2_147_483_647
 MOST_INSTRUCTIONS = 2_000_000
 
-PF_X, PF_W = 1, 2
+PT_LOAD, PF_X, PF_W = 1, 1, 2
 
 # The statuses that the program can end with.
 EXITED, USAGE, REFUSED, MISSHAPEN, FAULT, SPENT, TRAPPED, WAITING = 0, 2, 3, 4, 5, 10, 11, 12
@@ -59,61 +59,131 @@ def trap(cause, value):
     return Stop(f"trap {cause} {value & MASK:08x}", True)
 
 
+class Segment:
+    """A program header that counts: its number in the table, and its fields."""
+
+    def __init__(self, number, fields):
+        self.number = number
+        _, self.offset, self.first, _, self.filesz, self.memsz, flags, _ = fields
+        self.end = self.first + self.memsz
+        self.is_code = flags & PF_X != 0
+        self.has_stores = flags & PF_W != 0
+
+
+def header_refusal(data):
+    """Why the file header is not accepted, or None."""
+    if len(data) < 52:
+        return f"1 short at {len(data)}"
+    e_type, e_machine = struct.unpack_from("<HH", data, 16)
+    (e_phoff,) = struct.unpack_from("<I", data, 28)
+    (e_flags,) = struct.unpack_from("<I", data, 36)
+    e_phentsize, e_phnum = struct.unpack_from("<HH", data, 42)
+    if len(data) < e_phoff + 32 * e_phnum:
+        return f"1 short at {len(data)}"
+    if data[:4] != b"\x7fELF":
+        return "2 not an ELF file"
+    if data[4] != 1 or data[5] != 1:
+        return "3 not class 32 little endian"
+    if e_machine != 243:
+        return "4 not for RISC-V"
+    if e_type != 2:
+        return "5 not an executable"
+    if e_flags & 1:
+        return "6 compressed instructions"
+    if e_flags & 8:
+        return "7 reduced registers"
+    if e_phnum != 0 and e_phentsize != 32:
+        return f"8 header size {e_phentsize}"
+    return None
+
+
+def segments_of(data):
+    """The headers of type PT_LOAD in their order, but for those of no bytes at all."""
+    (e_phoff,) = struct.unpack_from("<I", data, 28)
+    (e_phnum,) = struct.unpack_from("<H", data, 44)
+    segments = []
+    for number in range(e_phnum):
+        fields = struct.unpack_from("<8I", data, e_phoff + 32 * number)
+        if fields[0] == PT_LOAD and (fields[4], fields[5]) != (0, 0):
+            segments.append(Segment(number, fields))
+    return segments
+
+
+def overlapping(segments):
+    """The first two segments that share an address, by the first one's number and then the other's, or None.
+
+    Each is in memory and has a byte there. They are drawn on a map of memory from the last to the first, so that
+    what is found drawn is of a later one, and what is found last is of the first one that shares an address.
+    """
+    drawn = bytearray(MEMORY)
+    found = None
+    for place in range(len(segments) - 1, -1, -1):
+        one = segments[place]
+        first, end = one.first - BASE, one.end - BASE
+        if drawn.find(1, first, end) >= 0:
+            found = place
+        if drawn.find(0, first, end) >= 0:
+            drawn[first:end] = b"\1" * (end - first)
+    if found is None:
+        return None
+    one = segments[found]
+    for other in segments[found + 1 :]:
+        if one.first < other.end and other.first < one.end:
+            return one, other
+    raise AssertionError("what is drawn is of a later segment")
+
+
+def segment_refusal(data, segments):
+    """Why the segments are not accepted, or None."""
+    for one in segments:
+        if one.offset + one.filesz > len(data):
+            return f"9 segment {one.number} out of file"
+    for one in segments:
+        if one.filesz > one.memsz:
+            return f"10 segment {one.number} file size above memory size"
+    for one in segments:
+        if one.first < BASE or one.end > BASE + MEMORY:
+            return f"11 segment {one.number} out of memory"
+    pair = overlapping(segments)
+    if pair is not None:
+        return f"12 segments {pair[0].number} and {pair[1].number} overlap"
+    if not segments:
+        return "13 no segment"
+    (entry,) = struct.unpack_from("<I", data, 24)
+    if entry % 4 != 0 or not any(one.is_code and one.first <= entry and entry + 4 <= one.end for one in segments):
+        return f"14 entry {entry:08x} not executable"
+    return None
+
+
 class Image:
-    """The one segment of an accepted file."""
+    """The entry of an accepted file, its segments, and the memory that they make."""
 
     def __init__(self, data):
-        if len(data) < 52:
-            raise Refusal(f"1 short at {len(data)}")
-        e_type, e_machine = struct.unpack_from("<HH", data, 16)
-        e_entry, e_phoff = struct.unpack_from("<II", data, 24)
-        (e_flags,) = struct.unpack_from("<I", data, 36)
-        e_phentsize, e_phnum = struct.unpack_from("<HH", data, 42)
-        if len(data) < e_phoff + 32 * e_phnum:
-            raise Refusal(f"1 short at {len(data)}")
-        if data[:4] != b"\x7fELF":
-            raise Refusal("2 not an ELF file")
-        served = (
-            data[4] == 1
-            and data[5] == 1
-            and e_machine == 243
-            and e_type == 2
-            and e_flags & 0b1001 == 0
-            and e_phnum == 1
-            and e_phentsize == 32
-        )
-        if not served:
-            raise Refusal("15 unsupported")
-        p_type, p_offset, p_vaddr, _, p_filesz, p_memsz, p_flags, _ = struct.unpack_from("<8I", data, e_phoff)
-        served = (
-            p_type == 1
-            and p_flags & PF_X != 0
-            and p_offset + p_filesz <= len(data)
-            and p_filesz == p_memsz
-            and p_filesz > 0
-            and p_vaddr >= BASE
-            and p_vaddr + p_memsz <= BASE + MEMORY
-            and e_entry % 4 == 0
-            and p_vaddr <= e_entry
-            and e_entry + 4 <= p_vaddr + p_memsz
-        )
-        if not served:
-            raise Refusal("15 unsupported")
-        self.entry = e_entry
-        self.first = p_vaddr
-        self.end = p_vaddr + p_memsz
-        self.bytes = data[p_offset : p_offset + p_filesz]
-        self.has_stores = p_flags & PF_W != 0
+        refusal = header_refusal(data)
+        if refusal is None:
+            segments = segments_of(data)
+            refusal = segment_refusal(data, segments)
+        if refusal is not None:
+            raise Refusal(refusal)
+        (self.entry,) = struct.unpack_from("<I", data, 24)
+        self.segments = segments
+        self.opening = bytearray(MEMORY)
+        for one in segments:
+            at = one.first - BASE
+            self.opening[at : at + one.filesz] = data[one.offset : one.offset + one.filesz]
+        self.fetched = {}
 
     def fetch(self, pc):
-        """The word at pc from the loaded bytes, or None outside the segment."""
-        if pc < self.first or pc + 4 > self.end:
-            return None
-        return int.from_bytes(self.bytes[pc - self.first : pc - self.first + 4], "little")
+        """The word at pc from the loaded bytes, or None where no segment of code has all four of them."""
+        if pc not in self.fetched:
+            is_code = any(one.is_code and one.first <= pc and pc + 4 <= one.end for one in self.segments)
+            word = int.from_bytes(self.opening[pc - BASE : pc - BASE + 4], "little")
+            self.fetched[pc] = word if is_code else None
+        return self.fetched[pc]
 
     def is_writable(self, address, size):
-        """False exactly where one of these bytes is in the segment and that has no PF_W."""
-        return self.has_stores or address + size <= self.first or self.end <= address
+        """False exactly where one of these bytes is in a segment without PF_W."""
+        return all(one.has_stores or address + size <= one.first or one.end <= address for one in self.segments)
 
 
 def signed(value, width=32):
@@ -216,8 +286,7 @@ class Machine:
     def __init__(self, image, clusters=1, harts=1, budget=BUDGET):
         self.image = image
         self.budget = budget
-        self.memory = bytearray(MEMORY)
-        self.memory[image.first - BASE : image.end - BASE] = image.bytes
+        self.memory = bytearray(image.opening)
         self.locks = [0] * LOCK_WORDS
         self.console = bytearray()
         self.accesses = []
