@@ -1,24 +1,33 @@
 # Builds NAME.elf in the folder of an example: `make` there, with Debian's gcc-riscv64-unknown-elf.
 # The folder's Makefile sets NAME and SOURCES; its own link.ld lays the image out. A program for many harts
-# also sets ARCH to rv32ia, which adds the atomic instructions.
+# also sets ARCH to rv32ia, which adds the atomic instructions. Where LAYOUT is set, it stands for link.ld: empty
+# it leaves the layout to the linker.
 
 CC = riscv64-unknown-elf-gcc
 ARCH ?= rv32i
 COMMON := $(dir $(lastword $(MAKEFILE_LIST)))
 
+# GCC is not to make the loop of memset a call of memset.
+OWN_LOOPS ?= -fno-tree-loop-distribute-patterns
 CFLAGS = -march=$(ARCH) -mabi=ilp32 -std=c11 -O2 -Wall -Wextra -Werror \
-	-ffreestanding -fno-builtin -fno-tree-loop-distribute-patterns \
-	-fno-pic -fno-asynchronous-unwind-tables -msmall-data-limit=0 -I$(COMMON)
+	-ffreestanding -fno-builtin $(OWN_LOOPS) -fno-pic -fno-asynchronous-unwind-tables \
+	-msmall-data-limit=0 -I$(COMMON)
 # -n packs the segment behind the headers; the image has code and data in one segment on purpose.
-LDFLAGS = -nostdlib -static -T link.ld \
-	-Wl,-n -Wl,--build-id=none -Wl,--no-warn-rwx-segments -Wl,--strip-all
+LAYOUT ?= -T link.ld -Wl,-n -Wl,--no-warn-rwx-segments
+LDFLAGS = -nostdlib -static $(LAYOUT) -Wl,--build-id=none -Wl,--strip-all
 
 all: $(NAME).elf
 
-$(NAME).elf: $(SOURCES) link.ld $(wildcard $(COMMON)*)
-	$(CC) $(CFLAGS) $(LDFLAGS) -o $@ $(SOURCES)
+$(NAME).elf: $(SOURCES) $(wildcard link.ld) $(wildcard $(COMMON)*)
+	$(CC) $(CFLAGS) $(LDFLAGS) -o $@ $(SOURCES) $(LIBRARIES)
+
+# Runs the same C source on the computer at hand.
+native: $(SOURCES)
+	cc -std=c11 -O2 -Wall -I$(COMMON) -o $(NAME).native $(filter %.c,$(SOURCES))
+	./$(NAME).native
+	rm $(NAME).native
 
 clean:
 	rm -f $(NAME).elf
 
-.PHONY: all clean
+.PHONY: all clean native

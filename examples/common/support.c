@@ -53,6 +53,7 @@ unsigned times(unsigned a, unsigned b)
     return product;
 }
 
+#ifdef __riscv
 /* The compiler writes a call of this for `*`. */
 unsigned __mulsi3(unsigned a, unsigned b)
 {
@@ -77,3 +78,4 @@ void *memset(void *to, int value, unsigned size)
         *target++ = (unsigned char)value;
     return to;
 }
+#endif
