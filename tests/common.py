@@ -52,6 +52,15 @@ def run(*words, launcher=LAUNCHER, **options):
     return Ran(process.returncode, out, err)
 
 
+def read(path):
+    """The bytes of a file, or None where it is not there."""
+    try:
+        with open(path, "rb") as file:
+            return file.read()
+    except FileNotFoundError:
+        return None
+
+
 class Checks:
     """Prints a line for each check, and at the end how many passed and failed."""
 
