@@ -1,17 +1,22 @@
-//! Words from their instructions.
+//! Words from their instructions, and executable files from their segments.
 //!
-//! The layout of a word, which contracts speak of, is the one that `rv32_decode` reads words by.
+//! The layout of a word, which contracts speak of, is the one that `rv32_decode` reads words by. A file has
+//! the fields that `elf_load` reads.
 #![tactic(auto)]
 
 ghost use Rattle.std.specs.Prelude.{◌≡◌};
 ghost use Rattle.rv32_decode.specs.Layout.{word_of};
 
-pub use dash_base::Instr;
+pub use dash_base::{Instr, OutOfMemory, Segment};
+pub use elf::write_elf;
+pub use program::Program;
 
+mod elf;
 mod fields;
 mod formats;
 mod instrs;
 pub mod laws;
+mod program;
 mod tables;
 
 /// The word of an instruction.
@@ -35,5 +40,7 @@ pub fn encode(instr: &Instr) -> u32
     }
 }
 
+#[cfg(test)]
+mod elf_tests;
 #[cfg(test)]
 mod tests;

@@ -1,0 +1,5 @@
+mod Append
+mod NumbersRead
+mod Headers
+mod Segments
+mod WrittenFiles
