@@ -1,0 +1,3 @@
+pub mod OnePerLine
+pub mod Changed
+pub mod Lawful

@@ -1,0 +1,5 @@
+pub mod View
+pub mod Rows
+pub mod Steps
+pub mod Kept
+pub mod Laws
