@@ -1,7 +1,7 @@
 //! Messages on their way.
 
 use crate::msg::Msg;
-use dash_base::ClusterId;
+use dash_base::{ClusterId, LineId};
 
 /// A message with the stamp of the event that sent it.
 #[derive(Clone, Copy, Debug, PartialEq, Eq)]
@@ -15,4 +15,22 @@ pub struct Parcel {
 pub struct Sent {
     pub to: ClusterId,
     pub msg: Msg,
+}
+
+/// What fills the unused places of a bounded list: a refusal of line 0, to cluster 0.
+impl Default for Sent {
+    ghost use Rattle.std.specs.Prelude.{◌≡◌};
+    ghost use Rattle.dash_msg.specs.declared.msg.Msg.TheVariants.{Nak};
+
+    ghost is_default = { λ s. s ≡ record {
+      to = record { 0 = 0 };
+      msg = Nak (record { 0 = 0 });
+    } };
+
+    fn default() -> Self {
+        Sent {
+            to: ClusterId(0),
+            msg: Msg::Nak { line: LineId(0) },
+        }
+    }
 }
