@@ -1,0 +1,6 @@
+pub mod Maps
+pub mod Places
+pub mod AtStart
+pub mod Invalidated
+pub mod Serving
+pub mod Lawful
