@@ -50,12 +50,13 @@ pub record IsShownOwn (log : List Event) (i : ℕ) (a : Access) (number : ℕ) :
   pub read : a.read ≡ Some (bytes_under a.mask value)
   pub not_yet : ¬ IsCommittedBefore log store i
 
--- the event at a position serves an access of a lock word
+-- what happened serves an access of a lock word
 abbrev pub ServesLock : Kind → Access → Type 0
 ServesLock (Grant b) a = b ≡ a
 ServesLock (Free from b) a = b ≡ a
 ServesLock kind a = ⊥
 
+-- the event at a position does
 pub record IsLockEvent (log : List Event) (i : ℕ) (a : Access) : Type 0 where
   pub kind : Kind
   pub at : IsEventAt log i kind

@@ -24,11 +24,12 @@ acknowledged_by line (Ack l) = if l.0 == line.0 then 1 else 0
 acknowledged_by line (TransferAck l) = if l.0 == line.0 then 1 else 0
 acknowledged_by line msg = 0
 
--- a count over the messages that a cluster took
+-- what an event counts, where it takes a message
 abbrev pub taken_in : (Msg → ℕ) → Kind → ℕ
 taken_in weight (Take from msg) = weight msg
 taken_in weight kind = 0
 
+-- a count over the messages that a cluster took
 abbrev pub taken : (Msg → ℕ) → ClusterId → List Event → ℕ
 taken weight cluster log = sum_by (λ e. if e.cluster.0 == cluster.0 then taken_in weight e.kind else 0) log
 

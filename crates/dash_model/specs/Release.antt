@@ -31,6 +31,7 @@ Releases image (kind.Fence g pc) hart = (g ≡ hart) × IsWaitingFence image pc
 Releases image (kind.LockSend g (Unlock h number word)) hart = g ≡ hart
 Releases image happened hart = ⊥
 
+-- the event at a position is one
 pub record IsReleaseEvent (image : ImageView) (log : List Event) (i : ℕ) (hart : HartId) : Type 0 where
   pub kind : Kind
   pub at : IsEventAt log i kind

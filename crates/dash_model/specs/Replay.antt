@@ -47,15 +47,17 @@ pub record Accesses (image : ImageView) (t : Topology) (old new : Harts) (a : Ac
   pub succeeds : Bool
   pub is_offered : offered a.hart.0 ((old a.hart.0).retired + 1) need content succeeds ≡ Some (unseen a)
 
--- a load is shown a version of its line or its hart's own store, and LR a version of its line
+-- an access is shown a version of its word's line
 pub record IsShownVersion (a : Access) : Type 0 where
   pub version : ℕ
   pub is : a.seen ≡ Line version
 
+-- an access is shown its hart's own store
 pub record IsShownStore (a : Access) : Type 0 where
   pub number : ℕ
   pub is : a.seen ≡ Own number
 
+-- a load is shown a version or its hart's own store, and LR a version
 abbrev pub IsLoad : Access → Type 0
 IsLoad a = ((a.op ≡ op.Load) × (IsShownVersion a ⊎ IsShownStore a)) ⊎ ((a.op ≡ op.Reserve) × IsShownVersion a)
 
@@ -63,11 +65,12 @@ IsLoad a = ((a.op ≡ op.Load) × (IsShownVersion a ⊎ IsShownStore a)) ⊎ ((a
 abbrev pub IsRmw : Access → Type 0
 IsRmw a = (a.op ≡ op.Amo) ⊎ ((a.op ≡ op.Cond) × IsSome a.written)
 
--- the fence of an event, the hint of one
+-- the next instruction of a hart was a fence
 pub record Fences (image : ImageView) (t : Topology) (old new : Harts) (hart : HartId) : Type 0 where
   pub waits : Bool
   pub moves : Moves image t old new hart (needed.Fence waits) 0
 
+-- the next instruction of a hart was a hint
 pub record Hints (image : ImageView) (t : Topology) (old new : Harts) (hart : HartId) : Type 0 where
   pub hint : HintKind
   pub address : ℕ

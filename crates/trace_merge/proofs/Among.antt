@@ -1,5 +1,5 @@
 -- Conflicting writes commit in the order in which they stand, and a write before an access that is shown a version is among the commits of that version.
-use Rattle.std.proofs.Common.{◌≡◌, ◌≢◌, ◌⊎◌, inl, inr, ◌<◌, ◌≤◌, ℕ, suc, ◌+◌, true, ◌++◌, [], ◌∷◌, List, Some, refl, sym, ◌∙◌, ap, subst, arith}
+use Rattle.std.proofs.Common.{◌≡◌, ◌≢◌, ◌⊎◌, inl, inr, ◌<◌, ◌≤◌, ℕ, suc, ◌+◌, true, ◌++◌, [], ◌∷◌, List, refl, sym, ◌∙◌, ap, subst, arith}
 use Rattle.dash_base.specs.Words.{has_byte}
 use Rattle.dash_base.specs.declared.id.HartId.{HartId}
 use Rattle.dash_base.specs.declared.id.LineId.{LineId}

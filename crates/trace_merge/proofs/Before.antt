@@ -1,5 +1,5 @@
 -- The key: what a hart stored is committed before a conflicting access of another hart, and that access sees it; and conflicting writes commit in the order in which they stand.
-use Rattle.std.proofs.Common.{◌≡◌, ◌≢◌, ◌⊎◌, inl, inr, ◌<◌, ◌≤◌, ℕ, suc, ◌+◌, true, false, List, [], ◌∷◌, ◌++◌, Some, None, refl, sym, ◌∙◌, ap, subst, arith}
+use Rattle.std.proofs.Common.{◌≡◌, ◌≢◌, ◌⊎◌, inl, inr, ◌<◌, ◌≤◌, ℕ, suc, true, false, List, [], ◌∷◌, ◌++◌, None, refl, sym, ◌∙◌, ap, subst, arith}
 use Rattle.std.specs.Prelude.{IsSome, is_some, slice_get}
 use Rattle.dash_base.specs.Words.{has_byte}
 use Rattle.dash_base.specs.declared.id.ClusterId.{ClusterId}
@@ -8,10 +8,9 @@ use Rattle.dash_base.specs.declared.id.LineId.{LineId}
 use Rattle.dash_base.specs.declared.topology.Topology.{Topology}
 use Rattle.dash_msg.specs.declared.msg.Msg.TheVariants.{Unlock}
 use Rattle.elf_load.specs.Image.{ImageView}
-use Rattle.dash_event.specs.Places.{line_of, cluster_of}
+use Rattle.dash_event.specs.Places.{line_of}
 use Rattle.dash_event.specs.Records.{unseen, records_in}
 use Rattle.dash_event.specs.declared.access.Access.{Access}
-use Rattle.dash_event.specs.declared.access.Op.TheVariants as op
 use Rattle.dash_event.specs.declared.event.Event.{Event}
 use Rattle.dash_event.specs.declared.event.Kind.{Kind}
 use Rattle.dash_event.specs.declared.event.Kind.TheVariants as kind
@@ -19,8 +18,8 @@ use Rattle.dash_event.specs.declared.step_record.StepRecord.{StepRecord}
 use Rattle.dash_event.specs.declared.step_record.StepRecord.TheVariants as step
 use Rattle.flat_model.specs.Labels.{IsRelease}
 use Rattle.flat_model.specs.Step.{hart_of}
-use Rattle.flat_model.specs.Race.{MasksMeet, IsRaceFree}
-use Rattle.dash_model.specs.Log.{IsEventAt, IsShown, IsCommitEvent, IsRecordEvent}
+use Rattle.flat_model.specs.Race.{IsRaceFree}
+use Rattle.dash_model.specs.Log.{IsEventAt, IsShown, IsRecordEvent}
 use Rattle.dash_model.specs.Coherent.{IsCommittedBefore}
 use Rattle.dash_model.specs.Release.{IsReleaseEvent}
 use Rattle.dash_model.specs.Replay.{Harts, Accesses, IsLoad}
@@ -28,7 +27,7 @@ use Rattle.dash_model.specs.Followed.{IsFollowed}
 use Rattle.trace_merge.proofs.Places.{upto_more, made_by}
 use Rattle.trace_merge.proofs.Offers.{HasShape, has_shape}
 use Rattle.trace_merge.proofs.Released.{steps, IsReleasedSince, released}
-use Rattle.trace_merge.proofs.Facts.{one_event, three, same_or_not, replays, plain_store, numbers_rise}
+use Rattle.trace_merge.proofs.Facts.{one_event, three, replays, plain_store}
 use Rattle.trace_merge.proofs.Commits.{committed_or_not, committed_later, one_commit, after_store, commit_event}
 
 pub same_hart : (g h : HartId) → g.0 ≡ h.0 → g ≡ h

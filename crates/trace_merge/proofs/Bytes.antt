@@ -1,32 +1,29 @@
 -- The bytes that an access is shown are those of the sequential machine's memory.
-use Rattle.std.proofs.Common.{◌≡◌, ◌≢◌, ◌⊎◌, inl, inr, ◌<◌, ◌≤◌, ℕ, suc, ◌+◌, true, List, [], ◌∷◌, ◌++◌, length, Option, Some, None, refl, sym, ◌∙◌, ap, subst, arith}
+use Rattle.std.proofs.Common.{◌≡◌, ◌≢◌, ◌⊎◌, inl, inr, ◌<◌, ℕ, suc, true, List, length, Some, sym, ◌∙◌, ap, subst, arith}
 use Rattle.dash_base.specs.Words.{has_byte, byte_of_word}
-use Rattle.dash_base.specs.declared.id.HartId.{HartId}
-use Rattle.dash_base.specs.declared.id.LineId.{LineId}
 use Rattle.dash_base.specs.declared.topology.Topology.{Topology}
 use Rattle.elf_load.specs.Image.{ImageView, opening_word}
 use Rattle.dash_event.specs.Places.{line_of}
 use Rattle.dash_event.specs.Records.{unseen, records_in}
 use Rattle.dash_event.specs.declared.access.Access.{Access}
 use Rattle.dash_event.specs.declared.event.Event.{Event}
-use Rattle.dash_event.specs.declared.event.Kind.{Kind}
 use Rattle.dash_event.specs.declared.event.Kind.TheVariants as kind
 use Rattle.dash_event.specs.declared.step_record.StepRecord.TheVariants as step
 use Rattle.flat_model.specs.Step.{is_of_memory}
 use Rattle.flat_model.specs.Order.{IsAccessAt}
-use Rattle.flat_model.specs.LastBefore.{LastBefore, NoneBefore, WritesByte, IsByteBefore}
-use Rattle.dash_model.specs.Log.{IsEventAt, commits_before, commit_in}
+use Rattle.flat_model.specs.LastBefore.{WritesByte, IsByteBefore}
+use Rattle.dash_model.specs.Log.{IsEventAt, commit_in}
 use Rattle.dash_model.specs.LineContent.{word_at}
 use Rattle.dash_model.specs.Coherent.{IsCommittedBefore, IsShownOwn}
 use Rattle.dash_model.specs.Followed.{IsFollowed}
-use Rattle.trace_merge.proofs.Places.{Origin, upto, upto_all, place_grows, from_place, at_place, place_before, before_place}
+use Rattle.trace_merge.proofs.Places.{upto_all, place_grows, from_place, at_place, place_before, before_place}
 use Rattle.trace_merge.proofs.Released.{small_records, steps}
 use Rattle.trace_merge.proofs.Facts.{three, same_or_not, event_within, store_op}
 use Rattle.trace_merge.proofs.Commits.{committed_later}
-use Rattle.trace_merge.proofs.Before.{same_hart, IsWritten, not_after_commit}
+use Rattle.trace_merge.proofs.Before.{same_hart, not_after_commit}
 use Rattle.trace_merge.proofs.Among.{rmw_shown, commit_order, conflict, other, IsReader, IsAmong}
-use Rattle.trace_merge.proofs.Content.{small_commits, IsCommitIn, IsLastCommit, IsNoCommit, IsByteAt, byte_at}
-use Rattle.trace_merge.proofs.Writers.{same_word, IsWrite, a_store, a_rmw, write_kind, one_write, IsWriter, writer, writes_as, IsWriteOf, write_of, commit_in_of, AreRaceFree, among}
+use Rattle.trace_merge.proofs.Content.{small_commits, IsCommitIn, IsLastCommit, IsByteAt, byte_at}
+use Rattle.trace_merge.proofs.Writers.{same_word, IsWrite, a_store, a_rmw, write_kind, one_write, writer, writes_as, IsWriteOf, write_of, commit_in_of, AreRaceFree, among}
 
 -- equal accesses write equal bytes
 one_value : (address x : ℕ) (a b : Access) → a ≡ b → (w : WritesByte address x a) (w' : WritesByte address x b) → w.value ≡ w'.value

@@ -1,5 +1,5 @@
 -- Commits of stores: each store has one at most, after it, and it can be told whether a store is committed before a position.
-use Rattle.std.proofs.Common.{◌≡◌, ◌≢◌, ◌⊎◌, inl, inr, ◌<◌, ◌≤◌, ℕ, zero, suc, ◌+◌, Bool, true, false, List, [], ◌∷◌, length, Option, Some, None, refl, sym, ◌∙◌, ap, subst, arith, eq-eqb}
+use Rattle.std.proofs.Common.{◌≡◌, ◌⊎◌, inl, inr, ◌<◌, ◌≤◌, ℕ, Bool, true, false, List, [], ◌∷◌, length, Some, None, refl, sym, ◌∙◌, ap, subst, arith, eq-eqb}
 use Rattle.std.proofs.lemmas.Bool.Decides.{nat_tests}
 use Rattle.std.specs.Prelude.{slice_get, ◌==◌, ◌&&◌, if◌then◌else◌}
 use Rattle.dash_base.specs.declared.id.HartId.{HartId}
@@ -14,7 +14,7 @@ use Rattle.dash_event.specs.declared.event.Kind.TheVariants as kind
 use Rattle.dash_model.specs.Log.{IsEventAt, IsCommitEvent}
 use Rattle.dash_model.specs.Coherent.{IsCommittedBefore}
 use Rattle.dash_model.specs.Followed.{IsFollowed}
-use Rattle.trace_merge.proofs.Places.{IsSmall, upto, Origin, from_place, at_place}
+use Rattle.trace_merge.proofs.Places.{IsSmall, upto, from_place, at_place}
 use Rattle.trace_merge.proofs.Facts.{one_event, three, both, one_store}
 
 -- what happened, in a list of one, where it commits a store

@@ -1,8 +1,7 @@
 -- The content of a line, byte by byte: what the last of its first commits wrote there, or the opening memory.
-use Rattle.std.proofs.Common.{◌≡◌, ◌⊎◌, inl, inr, ◌<◌, ◌≤◌, ℕ, zero, suc, ◌+◌, Bool, true, false, List, [], ◌∷◌, ◌++◌, length, take, Option, Some, None, refl, sym, ◌∙◌, ap, subst, arith, eq-eqb}
+use Rattle.std.proofs.Common.{◌≡◌, ◌⊎◌, inl, inr, ◌<◌, ◌≤◌, ℕ, zero, suc, Bool, true, false, List, [], ◌∷◌, ◌++◌, length, take, Option, Some, None, refl, sym, ◌∙◌, ap, subst, arith}
 use Rattle.std.specs.Prelude.{slice_get, fold, ◌==◌, if◌then◌else◌}
-use Rattle.dash_base.specs.Words.{has_byte, byte_of_word}
-use Rattle.dash_base.specs.declared.id.HartId.{HartId}
+use Rattle.dash_base.specs.Words.{byte_of_word}
 use Rattle.dash_base.specs.declared.id.LineId.{LineId}
 use Rattle.elf_load.specs.Image.{ImageView, opening_word}
 use Rattle.dash_event.specs.declared.access.Access.{Access}
@@ -12,11 +11,10 @@ use Rattle.dash_event.specs.declared.event.Kind.TheVariants as kind
 use Rattle.dash_event.specs.declared.step_record.StepRecord.TheVariants as step
 use Rattle.flat_model.specs.LastBefore.{WritesByte}
 use Rattle.flat_model.specs.Step.{word_after}
-use Rattle.flat_model.proofs.Values.{Leaves, Keeps}
-use Rattle.flat_model.proofs.Writes.{same_access, left_byte, byte_after, WritesOrKeeps}
-use Rattle.dash_model.specs.Log.{IsEventAt, IsCommitEvent, commit_in, commits_of, commits_before}
+use Rattle.flat_model.proofs.Writes.{same_access, byte_after, WritesOrKeeps}
+use Rattle.dash_model.specs.Log.{IsEventAt, commit_in, commits_of, commits_before}
 use Rattle.dash_model.specs.LineContent.{committed, committed_over, word_at}
-use Rattle.trace_merge.proofs.Places.{IsSmall, upto, upto_all, Origin, from_place, at_place, before_place}
+use Rattle.trace_merge.proofs.Places.{IsSmall, upto_all, from_place, before_place}
 use Rattle.trace_merge.proofs.Facts.{one_event, three, some_element}
 
 take_one : {A : Type 0} (xs : List A) (v : ℕ) (x : A) → slice_get xs v ≡ Some x → take (suc v) xs ≡ take v xs ++ x ∷ []

@@ -2,8 +2,7 @@
 use Rattle.std.proofs.Common.{◌≡◌, ◌≢◌, ◌⊎◌, inl, inr, ◌<◌, ◌≤◌, ℕ, zero, suc, ◌+◌, Bool, true, false, List, [], ◌∷◌, length, Option, Some, None, refl, sym, ◌∙◌, ap, subst, arith, eq-eqb}
 use Rattle.std.proofs.lemmas.Bool.Decides.{nat_tests}
 use Rattle.std.proofs.lemmas.Option.{slice_get_within}
-use Rattle.std.specs.Prelude.{slice_get, option_map, IsSome, ◌==◌, ◌&&◌, if◌then◌else◌}
-use Rattle.dash_base.specs.Words.{has_byte}
+use Rattle.std.specs.Prelude.{slice_get, option_map, ◌==◌, ◌&&◌, if◌then◌else◌}
 use Rattle.dash_base.specs.declared.id.HartId.{HartId}
 use Rattle.dash_base.specs.declared.topology.Topology.{Topology}
 use Rattle.elf_load.specs.Image.{ImageView}
@@ -17,14 +16,13 @@ use Rattle.dash_event.specs.declared.access.Op.TheVariants as op
 use Rattle.dash_event.specs.declared.event.Event.{Event}
 use Rattle.dash_event.specs.declared.event.Kind.{Kind}
 use Rattle.dash_event.specs.declared.event.Kind.TheVariants as kind
-use Rattle.flat_model.specs.Labels.{IsOrdinary}
 use Rattle.flat_model.proofs.Offers.{number_is}
 use Rattle.flat_model.proofs.Retired.{retires_no_less, access_retires}
 use Rattle.dash_model.specs.Log.{IsEventAt}
 use Rattle.dash_model.specs.LineContent.{store_in, store_of}
 use Rattle.dash_model.specs.Replay.{Harts, Moves, Accesses, Replays}
 use Rattle.dash_model.specs.Followed.{IsFollowed}
-use Rattle.trace_merge.proofs.Places.{IsSmall, upto, Origin, from_place, at_place, upto_all}
+use Rattle.trace_merge.proofs.Places.{IsSmall, upto, from_place, at_place, upto_all}
 use Rattle.trace_merge.proofs.Offers.{IsPlainStore, has_shape, store_need, HasShape}
 
 -- what stands at one position is one

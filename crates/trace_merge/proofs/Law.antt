@@ -1,282 +1,81 @@
 -- The records of a followed log of a properly labelled image are a sequential run: by induction on its prefixes.
-use Rattle.std.proofs.Common.{◌≡◌, ◌≢◌, ◌⊎◌, inl, inr, ◌<◌, ◌≤◌, ℕ, zero, suc, ◌+◌, Bool, true, false, List, [], ◌∷◌, ◌++◌, length, Option, Some, None, refl, sym, ◌∙◌, ap, subst, arith, eq-eqb}
-use Rattle.std.proofs.lemmas.Bool.Decides.{nat_tests}
-use Rattle.std.proofs.lemmas.List.{append-nil}
-use Rattle.std.specs.Prelude.{slice_get, IsSome, ◌==◌, if◌then◌else◌}
-use Rattle.dash_base.specs.Words.{has_byte, byte_of_word}
-use Rattle.dash_base.specs.declared.id.ClusterId.{ClusterId}
-use Rattle.dash_base.specs.declared.id.HartId.{HartId}
-use Rattle.dash_base.specs.declared.id.LineId.{LineId}
+use Rattle.std.proofs.Common.{◌≡◌, ◌⊎◌, inl, inr, ◌<◌, ◌≤◌, ℕ, zero, suc, false, List, length, refl, sym, subst, arith}
 use Rattle.dash_base.specs.declared.topology.Topology.{Topology}
 use Rattle.elf_load.specs.Image.{ImageView}
-use Rattle.dash_event.specs.Places.{line_of, cluster_of}
 use Rattle.dash_event.specs.Records.{unseen, records_in, records_of}
-use Rattle.dash_event.specs.declared.access.Access.{Access}
-use Rattle.dash_event.specs.declared.access.Op.{Op}
-use Rattle.dash_event.specs.declared.access.Op.TheVariants as op
 use Rattle.dash_event.specs.declared.event.Event.{Event}
 use Rattle.dash_event.specs.declared.event.Kind.{Kind}
 use Rattle.dash_event.specs.declared.event.Kind.TheVariants as kind
-use Rattle.dash_event.specs.declared.step_record.StepRecord.{StepRecord}
 use Rattle.dash_event.specs.declared.step_record.StepRecord.TheVariants as step
-use Rattle.hart_core.specs.HartState.{HartState}
-use Rattle.hart_core.specs.Meaning.{Does}
-use Rattle.hart_core.specs.Opening.{hart_count}
-use Rattle.hart_core.specs.declared.need.Need.{Need}
 use Rattle.hart_core.specs.declared.need.Need.TheVariants as needed
-use Rattle.hart_core.proofs.Unique.{any_answer}
-use Rattle.flat_model.specs.Offered.{bytes_under}
 use Rattle.flat_model.specs.State.{FlatState, opening_state}
-use Rattle.flat_model.specs.Step.{hart_of, is_of_memory, record_of, reply, state_after, IsFlatStep}
+use Rattle.flat_model.specs.Step.{state_after}
 use Rattle.flat_model.specs.Run.{RunsTo, IsSequentialRun}
-use Rattle.flat_model.specs.Race.{IsRaceFree, IsProperlyLabelled}
-use Rattle.flat_model.proofs.Steps.{one_more_step}
-use Rattle.flat_model.proofs.Seen.{memory_at_end, locks_at_end}
-use Rattle.dash_model.specs.Log.{IsEventAt, IsShown}
-use Rattle.dash_model.specs.LineContent.{word_at}
-use Rattle.dash_model.specs.Coherent.{IsShownOwn, IsLockEvent}
-use Rattle.dash_model.specs.Replay.{Harts, Accesses, IsLoad, IsRmw, IsShownVersion, IsShownStore, Replays}
+use Rattle.flat_model.specs.Race.{IsProperlyLabelled}
+use Rattle.dash_model.specs.Log.{IsEventAt}
+use Rattle.dash_model.specs.Replay.{Replays}
 use Rattle.dash_model.specs.Followed.{IsFollowed}
-use Rattle.trace_merge.proofs.Places.{upto_more, upto_all, made_by}
-use Rattle.trace_merge.proofs.Offers.{HasShape}
-use Rattle.trace_merge.proofs.Released.{steps}
-use Rattle.trace_merge.proofs.Facts.{event_within, some_event, replays}
-use Rattle.trace_merge.proofs.Before.{shape_of, load_reads}
-use Rattle.trace_merge.proofs.Among.{rmw_shown, IsReader}
-use Rattle.trace_merge.proofs.Writers.{same_under, AreRaceFree}
-use Rattle.trace_merge.proofs.Bytes.{line_agrees, own_agrees}
-use Rattle.trace_merge.proofs.Needs.{is_load, CanDo, can_store, can_fail, can_succeed, can_ask, can_unlock, can_load, can_amo, CanDoOther, can_do_other, ReadsMemory}
-use Rattle.trace_merge.proofs.Locks.{lock_agrees}
-use Rattle.trace_merge.proofs.Reserved.{some_value, IsFailing, has_reserved}
-
--- the harts after one of them moved
-moved_by : (old new : Harts) (hart : HartId) (g : ℕ) → ((i : ℕ) → i ≢ hart.0 → new i ≡ old i) → (b : Bool) → (g == hart.0) ≡ b → (if b then new hart.0 else old g) ≡ new g
-moved_by old new hart g others true e = let same : g ≡ hart.0 = grind (arith, nat_tests) in ap new (sym same)
-moved_by old new hart g others false e = sym (others g (λ same. (let t : (g == hart.0) ≡ true = eq-eqb g hart.0 same in cc)))
-
-moved : (old new : Harts) (hart : HartId) → ((i : ℕ) → i ≢ hart.0 → new i ≡ old i) → (λ (g : ℕ). if g == hart.0 then new hart.0 else old g) ≡ new
-moved old new hart others = λ i g. moved_by old new hart g others (g == hart.0) refl i
-
-load_kind : (a : Access) → IsLoad a → (is_load a.op ≡ true) × (is_of_memory a.op ≡ true)
-load_kind a (inl load) = (ap is_load load.0, ap is_of_memory load.0)
-load_kind a (inr reserve) = (ap is_load reserve.0, ap is_of_memory reserve.0)
-
-rmw_kind : (a : Access) → IsRmw a → is_of_memory a.op ≡ true
-rmw_kind a (inl amo) = ap is_of_memory amo
-rmw_kind a (inr cond) = ap is_of_memory cond.0
+use Rattle.trace_merge.proofs.Places.{upto_all}
+use Rattle.trace_merge.proofs.Facts.{some_event, replays}
+use Rattle.trace_merge.proofs.Needs.{can_store, can_fail}
+use Rattle.trace_merge.proofs.Events.{moved, IsRunTo, AreRunsTo, IsMet, with_record, without_record, by_access, load_step, rmw_step, grant_step, free_step}
 
 module _ (image : ImageView) (t : Topology) (log : List Event) (f : IsFollowed image t log) (labelled : IsProperlyLabelled image t) where
-  -- the records of the first n events lead to a state with the harts of the replay
-  record IsRunTo (n : ℕ) : Type 0 where
-    state : FlatState
-    runs : RunsTo image t (steps log n) state
-    harts : state.harts ≡ f.harts n
-
-  abbrev AreRunsTo : ℕ → Type 0
-  AreRunsTo n = (m : ℕ) → m ≤ n → IsRunTo m
-
-  race_free : (n : ℕ) → AreRunsTo n → AreRaceFree image t log f n
-  race_free n runs m le = let r = runs m le in labelled (steps log m) (record { final = r.state; runs = r.runs })
-
-  with_record : (n : ℕ) (k : Kind) (r : StepRecord) (s new : FlatState) → IsEventAt log n k → records_in k ≡ r ∷ [] → RunsTo image t (steps log n) s
-      → IsFlatStep image t s (hart_of r).0 r new → new.harts ≡ f.harts (suc n) → IsRunTo (suc n)
-  with_record n k r s new at makes runs does harts =
-      let more : steps log (suc n) ≡ steps log n ++ r ∷ [] = upto_more records_in log n ∙ ap (λ x. steps log n ++ x) (made_by records_in (slice_get log n) k at ∙ makes) in
-      record {
-        state = new;
-        runs = subst (λ rs. RunsTo image t rs new) (sym more) (one_more_step image t (opening_state image t) (steps log n) s runs (hart_of r).0 r new does);
-        harts = harts;
-      }
-
-  without_record : (n : ℕ) (k : Kind) (s : FlatState) → IsEventAt log n k → records_in k ≡ [] → RunsTo image t (steps log n) s → s.harts ≡ f.harts (suc n) → IsRunTo (suc n)
-  without_record n k s at makes runs harts =
-      let more : steps log (suc n) ≡ steps log n = upto_more records_in log n ∙ ap (λ x. steps log n ++ x) (made_by records_in (slice_get log n) k at ∙ makes) ∙ append-nil (steps log n) in
-      record { state = s; runs = subst (λ rs. RunsTo image t rs s) (sym more) runs; harts = harts }
-
-  -- an access that can be done is a step
-  access_step : (s : FlatState) (h : HartId) (need : Need) (a : Access) (next : HartState) → h.0 < hart_count t → CanDo s h.0 ((s.harts h.0).retired + 1) need a
-      → Does image t (s.harts h.0) need (reply a.read a.written) next → IsFlatStep image t s h.0 (step.Access a) (state_after s (step.Access a) next)
-  access_step s h need a next in_range can does = record {
-    in_range = in_range;
-    need = need;
-    succeeds = can.succeeds;
-    possible = can.possible;
-    recorded = ap (record_of h.0 need) (sym can.is);
-    next = next;
-    does = does;
-    after = refl;
-  }
-
-  -- the event at n, on the state that the events before it lead to
-  record IsMet (n : ℕ) (s : FlatState) : Type 0 where
-    before : AreRunsTo n
-    runs : RunsTo image t (steps log n) s
-
-  by_access : (n : ℕ) (s : FlatState) (k : Kind) (a : Access) → IsMet n s → IsEventAt log n k → records_in k ≡ step.Access (unseen a) ∷ [] → (e : Accesses image t s.harts (f.harts (suc n)) a)
-      → CanDo s a.hart.0 ((s.harts a.hart.0).retired + 1) e.need (unseen a) → IsRunTo (suc n)
-  by_access n s k a met at makes e can =
-      with_record n k (step.Access (unseen a)) s (state_after s (step.Access (unseen a)) (f.harts (suc n) a.hart.0)) at makes met.runs
-      (access_step s a.hart e.need (unseen a) (f.harts (suc n) a.hart.0) e.moves.in_range can e.moves.does) (moved s.harts (f.harts (suc n)) a.hart e.moves.others)
-
-  -- another access of these bytes stands last in a sequential run, which has no race
-  record IsOther (n : ℕ) (s : FlatState) (a r : Access) : Type 0 where
-    next : HartState
-    does : IsFlatStep image t s a.hart.0 (step.Access r) (state_after s (step.Access r) next)
-    race_free : IsRaceFree (steps log n ++ step.Access r ∷ [])
-
-  other : (n : ℕ) (s : FlatState) (a : Access) → IsMet n s → (e : Accesses image t s.harts (f.harts (suc n)) a)
-      → (c : CanDoOther s a.hart.0 ((s.harts a.hart.0).retired + 1) e.need (unseen a)) → IsOther n s a c.access
-  other n s a met e c =
-      let r = c.access in
-      let k = any_answer image t (s.harts a.hart.0) (f.harts (suc n) a.hart.0) e.need _ (reply r.read r.written) e.moves.does in
-      let new = state_after s (step.Access r) k.0 in
-      let does : IsFlatStep image t s a.hart.0 (step.Access r) new = access_step s a.hart e.need r k.0 e.moves.in_range c.can k.1 in
-      record {
-        next = k.0;
-        does = does;
-        race_free = labelled (steps log n ++ step.Access r ∷ []) (record { final = new; runs = one_more_step image t (opening_state image t) (steps log n) s met.runs a.hart.0 (step.Access r) new does });
-      }
-
-  -- what is shown by a version stands in memory
-  reads_line : (n : ℕ) (s : FlatState) (a r : Access) (v : ℕ) → IsMet n s → IsReader image t log f n a r v → r.mask ≡ a.mask → IsSome a.read
-      → a.read ≡ Some (bytes_under a.mask (s.memory a.word.0))
-  reads_line n s a r v met reads mask some =
-      let value = some_value a.read some in
-      let word = word_at image log (line_of t a.word) v a.word.0 in
-      let shown : value.0 ≡ bytes_under a.mask word = f.coherent.reads_shown n a v value.0 reads.shown value.1 in
-      let bytes : bytes_under a.mask (s.memory a.word.0) ≡ bytes_under a.mask word =
-      same_under a.mask (s.memory a.word.0) word (λ x small has.
-      line_agrees image t log f n a r v x (byte_of_word x (s.memory a.word.0)) reads (race_free n met.before) small (ap (λ m. has_byte m x) mask ∙ has)
-      (memory_at_end image t (steps log n) s met.runs a.word.0 x small)) in
-      value.1 ∙ ap Some (shown ∙ sym bytes)
-
-  -- so does the hart's own store
-  reads_own : (n : ℕ) (s : FlatState) (a : Access) (number : ℕ) → IsMet n s → IsShownOwn log n a number → a.read ≡ Some (bytes_under a.mask (s.memory a.word.0))
-  reads_own n s a number met own =
-      let bytes : bytes_under a.mask (s.memory a.word.0) ≡ bytes_under a.mask own.value =
-      same_under a.mask (s.memory a.word.0) own.value (λ x small has.
-      own_agrees image t log f n a number x (byte_of_word x (s.memory a.word.0)) own (race_free n met.before) small has (memory_at_end image t (steps log n) s met.runs a.word.0 x small)) in
-      own.read ∙ ap Some (sym bytes)
-
-  load_step : (n : ℕ) (s : FlatState) (a : Access) (level : ℕ) → IsMet n s → IsEventAt log n (kind.Load a level) → Accesses image t s.harts (f.harts (suc n)) a → IsLoad a → IsRunTo (suc n)
-  load_step n s a level met at e load = by_access n s (kind.Load a level) a met at refl e (can_load s a.hart.0 _ e.need e.content e.succeeds (unseen a) e.is_offered kinds.0 (by_shown load))
-    where
-      kinds : (is_load a.op ≡ true) × (is_of_memory a.op ≡ true)
-      kinds = load_kind a load
-
-      some : IsSome a.read
-      some = load_reads a load (shape_of image t log f s.harts (f.harts (suc n)) a e)
-
-      by_version : IsShownVersion a → a.read ≡ Some (bytes_under a.mask (s.memory a.word.0))
-      by_version v =
-          let c = can_do_other s a.hart.0 _ e.need e.content e.succeeds (unseen a) e.is_offered kinds.1 in
-          let o = other n s a met e c in
-          reads_line n s a c.access v.version met
-          (record { shown = record { event = record { kind = kind.Load a level; at = at; is = refl }; seen = v.is }; race_free = o.race_free; hart = c.same_hart; word = c.same_word }) c.same_mask some
-
-      by_store : IsShownStore a → a.read ≡ Some (bytes_under a.mask (s.memory a.word.0))
-      by_store k = reads_own n s a k.number met (f.coherent.own_is_newest n a level k.number at k.is)
-
-      by_shown : IsLoad a → a.read ≡ Some (bytes_under a.mask (s.memory a.word.0))
-      by_shown (inl (is, inl v)) = by_version v
-      by_shown (inl (is, inr k)) = by_store k
-      by_shown (inr (is, v)) = by_version v
-
-  rmw_step : (n : ℕ) (s : FlatState) (a : Access) (line : LineId) (version : ℕ) → IsMet n s → IsEventAt log n (kind.Rmw a line version)
-      → Accesses image t s.harts (f.harts (suc n)) a → IsRmw a → IsRunTo (suc n)
-  rmw_step n s a line version met at e is = by_access n s (kind.Rmw a line version) a met at refl e (by_kind is)
-    where
-      c : CanDoOther s a.hart.0 ((s.harts a.hart.0).retired + 1) e.need (unseen a)
-      c = can_do_other s a.hart.0 _ e.need e.content e.succeeds (unseen a) e.is_offered (rmw_kind a is)
-
-      o : IsOther n s a c.access
-      o = other n s a met e c
-
-      shape : HasShape a.op (unseen a)
-      shape = shape_of image t log f s.harts (f.harts (suc n)) a e
-
-      by_kind : IsRmw a → CanDo s a.hart.0 ((s.harts a.hart.0).retired + 1) e.need (unseen a)
-      by_kind (inl amo) =
-          let m = rmw_shown image t log f n a line version at in
-          let some : IsSome a.read = (subst (λ p. HasShape p (unseen a)) amo shape).0 in
-          can_amo s a.hart.0 _ e.need e.content e.succeeds (unseen a) e.is_offered amo
-          (reads_line n s a c.access m.0 met (record { shown = m.1; race_free = o.race_free; hart = c.same_hart; word = c.same_word }) c.same_mask some)
-      by_kind (inr cond) =
-          let all = (subst (λ p. HasShape p (unseen a)) cond.0 shape).1 in
-          let has = has_reserved image t log f n a c.access (record { race_free = o.race_free; same_hart = c.same_hart; same_word = c.same_word; all = c.same_mask ∙ all })
-          (f.conds_are_reserved n a line version at cond.0) (c.same_op ∙ cond.0) s (state_after s (step.Access c.access) o.next) met.runs o.does in
-          can_succeed s a.hart.0 _ e.need e.content e.succeeds (unseen a) e.is_offered cond.0 cond.1 has
-
-  lock_reads : (n : ℕ) (s : FlatState) (a : Access) → IsMet n s → IsLockEvent log n a → a.read ≡ Some (s.locks a.word.0)
-  lock_reads n s a met event = lock_agrees image t log f n a (Some (s.locks a.word.0)) event (locks_at_end image t (steps log n) s met.runs a.word.0)
-
-  grant_step : (n : ℕ) (s : FlatState) (a : Access) → IsMet n s → IsEventAt log n (kind.Grant a) → Accesses image t s.harts (f.harts (suc n)) a → a.op ≡ op.Ask → IsRunTo (suc n)
-  grant_step n s a met at e ask =
-      let reads : a.read ≡ Some (s.locks a.word.0) = lock_reads n s a met (record { kind = kind.Grant a; at = at; is = refl }) in
-      let zero_read : a.read ≡ Some 0 = f.coherent.grants_read_zero n a at in
-      let free : s.locks a.word.0 ≡ 0 = cc in
-      by_access n s (kind.Grant a) a met at refl e (can_ask s a.hart.0 _ e.need e.content e.succeeds (unseen a) e.is_offered ask free)
-
-  free_step : (n : ℕ) (s : FlatState) (from : ClusterId) (a : Access) → IsMet n s → IsEventAt log n (kind.Free from a) → Accesses image t s.harts (f.harts (suc n)) a → a.op ≡ op.Unlock → IsRunTo (suc n)
-  free_step n s from a met at e unlock =
-      by_access n s (kind.Free from a) a met at refl e
-      (can_unlock s a.hart.0 _ e.need e.content e.succeeds (unseen a) e.is_offered unlock (lock_reads n s a met (record { kind = kind.Free from a; at = at; is = refl })))
-
   still : (s : FlatState) (n : ℕ) → ((g : ℕ) → f.harts (suc n) g ≡ s.harts g) → s.harts ≡ f.harts (suc n)
   still s n stays = λ i g. sym (stays g) i
 
   -- each kind of event
-  step_on : (n : ℕ) (s : FlatState) (k : Kind) → IsMet n s → IsEventAt log n k → Replays image t s.harts k (f.harts (suc n)) → IsRunTo (suc n)
+  step_on : (n : ℕ) (s : FlatState) (k : Kind) → IsMet image t log f labelled n s → IsEventAt log n k → Replays image t s.harts k (f.harts (suc n)) → IsRunTo image t log f labelled (suc n)
   step_on n s (kind.Alu h pc) met at e =
-      with_record n (kind.Alu h pc) (step.Plain h) s (state_after s (step.Plain h) (f.harts (suc n) h.0)) at refl met.runs
+      with_record image t log f labelled n (kind.Alu h pc) (step.Plain h) s (state_after s (step.Plain h) (f.harts (suc n) h.0)) at refl met.runs
       (record { in_range = e.in_range; need = needed.Alu; succeeds = false; possible = tt; recorded = refl; next = f.harts (suc n) h.0; does = e.does; after = refl }) (moved s.harts (f.harts (suc n)) h e.others)
   step_on n s (kind.Fence h pc) met at e =
       let m = e.moves in
-      with_record n (kind.Fence h pc) (step.Plain h) s (state_after s (step.Plain h) (f.harts (suc n) h.0)) at refl met.runs
+      with_record image t log f labelled n (kind.Fence h pc) (step.Plain h) s (state_after s (step.Plain h) (f.harts (suc n) h.0)) at refl met.runs
       (record { in_range = m.in_range; need = needed.Fence e.waits; succeeds = false; possible = tt; recorded = refl; next = f.harts (suc n) h.0; does = m.does; after = refl }) (moved s.harts (f.harts (suc n)) h m.others)
   step_on n s (kind.Hint h pc slot) met at e =
       let m = e.moves in
-      with_record n (kind.Hint h pc slot) (step.Plain h) s (state_after s (step.Plain h) (f.harts (suc n) h.0)) at refl met.runs
+      with_record image t log f labelled n (kind.Hint h pc slot) (step.Plain h) s (state_after s (step.Plain h) (f.harts (suc n) h.0)) at refl met.runs
       (record { in_range = m.in_range; need = needed.Hint e.hint e.address; succeeds = false; possible = tt; recorded = refl; next = f.harts (suc n) h.0; does = m.does; after = refl }) (moved s.harts (f.harts (suc n)) h m.others)
   step_on n s (kind.Put h pc b) met at e =
-      with_record n (kind.Put h pc b) (step.Byte h b) s (state_after s (step.Byte h b) (f.harts (suc n) h.0)) at refl met.runs
+      with_record image t log f labelled n (kind.Put h pc b) (step.Byte h b) s (state_after s (step.Byte h b) (f.harts (suc n) h.0)) at refl met.runs
       (record { in_range = e.in_range; need = needed.Put b; succeeds = false; possible = tt; recorded = refl; next = f.harts (suc n) h.0; does = e.does; after = refl }) (moved s.harts (f.harts (suc n)) h e.others)
   step_on n s (kind.Stop h pc q) met at e =
-      with_record n (kind.Stop h pc q) (step.Stopped h q) s (state_after s (step.Stopped h q) (f.harts (suc n) h.0)) at refl met.runs
+      with_record image t log f labelled n (kind.Stop h pc q) (step.Stopped h q) s (state_after s (step.Stopped h q) (f.harts (suc n) h.0)) at refl met.runs
       (record { in_range = e.in_range; need = needed.Stop q; succeeds = false; possible = tt; recorded = refl; next = f.harts (suc n) h.0; does = e.does; after = refl }) (moved s.harts (f.harts (suc n)) h e.others)
-  step_on n s (kind.Load a level) met at e = load_step n s a level met at e.0 e.1
+  step_on n s (kind.Load a level) met at e = load_step image t log f labelled n s a level met at e.0 e.1
   step_on n s (kind.Store a) met at e =
-      by_access n s (kind.Store a) a met at refl e.0 (can_store s a.hart.0 _ e.0.need e.0.content e.0.succeeds (unseen a) e.0.is_offered e.1)
-  step_on n s (kind.Rmw a line version) met at e = rmw_step n s a line version met at e.0 e.1
+      by_access image t log f labelled n s (kind.Store a) a met at refl e.0 (can_store s a.hart.0 _ e.0.need e.0.content e.0.succeeds (unseen a) e.0.is_offered e.1)
+  step_on n s (kind.Rmw a line version) met at e = rmw_step image t log f labelled n s a line version met at e.0 e.1
   step_on n s (kind.ScFail a) met at e =
-      by_access n s (kind.ScFail a) a met at refl e.0 (can_fail s a.hart.0 _ e.0.need e.0.content e.0.succeeds (unseen a) e.0.is_offered e.1 e.2)
-  step_on n s (kind.Grant a) met at e = grant_step n s a met at e.0 e.1
-  step_on n s (kind.Free from a) met at e = free_step n s from a met at e.0 e.1
-  step_on n s (kind.Commit h m l v) met at e = without_record n (kind.Commit h m l v) s at refl met.runs (still s n e.stays)
-  step_on n s (kind.LockSend h m) met at e = without_record n (kind.LockSend h m) s at refl met.runs (still s n e.stays)
-  step_on n s (kind.BusRead h l) met at e = without_record n (kind.BusRead h l) s at refl met.runs (still s n e.stays)
-  step_on n s (kind.BusOwn h l) met at e = without_record n (kind.BusOwn h l) s at refl met.runs (still s n e.stays)
-  step_on n s (kind.Evict h l) met at e = without_record n (kind.Evict h l) s at refl met.runs (still s n e.stays)
-  step_on n s (kind.Ask i h l o) met at e = without_record n (kind.Ask i h l o) s at refl met.runs (still s n e.stays)
-  step_on n s (kind.Again i l) met at e = without_record n (kind.Again i l) s at refl met.runs (still s n e.stays)
-  step_on n s (kind.Install i h l) met at e = without_record n (kind.Install i h l) s at refl met.runs (still s n e.stays)
-  step_on n s (kind.Take c m) met at e = without_record n (kind.Take c m) s at refl met.runs (still s n e.stays)
+      by_access image t log f labelled n s (kind.ScFail a) a met at refl e.0 (can_fail s a.hart.0 _ e.0.need e.0.content e.0.succeeds (unseen a) e.0.is_offered e.1 e.2)
+  step_on n s (kind.Grant a) met at e = grant_step image t log f labelled n s a met at e.0 e.1
+  step_on n s (kind.Free from a) met at e = free_step image t log f labelled n s from a met at e.0 e.1
+  step_on n s (kind.Commit h m l v) met at e = without_record image t log f labelled n (kind.Commit h m l v) s at refl met.runs (still s n e.stays)
+  step_on n s (kind.LockSend h m) met at e = without_record image t log f labelled n (kind.LockSend h m) s at refl met.runs (still s n e.stays)
+  step_on n s (kind.BusRead h l) met at e = without_record image t log f labelled n (kind.BusRead h l) s at refl met.runs (still s n e.stays)
+  step_on n s (kind.BusOwn h l) met at e = without_record image t log f labelled n (kind.BusOwn h l) s at refl met.runs (still s n e.stays)
+  step_on n s (kind.Evict h l) met at e = without_record image t log f labelled n (kind.Evict h l) s at refl met.runs (still s n e.stays)
+  step_on n s (kind.Ask i h l o) met at e = without_record image t log f labelled n (kind.Ask i h l o) s at refl met.runs (still s n e.stays)
+  step_on n s (kind.Again i l) met at e = without_record image t log f labelled n (kind.Again i l) s at refl met.runs (still s n e.stays)
+  step_on n s (kind.Install i h l) met at e = without_record image t log f labelled n (kind.Install i h l) s at refl met.runs (still s n e.stays)
+  step_on n s (kind.Take c m) met at e = without_record image t log f labelled n (kind.Take c m) s at refl met.runs (still s n e.stays)
 
-  next_run : (n : ℕ) → n < length log → AreRunsTo n → IsRunTo (suc n)
+  next_run : (n : ℕ) → n < length log → AreRunsTo image t log f labelled n → IsRunTo image t log f labelled (suc n)
   next_run n below before =
       let r = before n (omega arith) in
       let e = some_event log n below in
       step_on n r.state e.0 (record { before = before; runs = r.runs }) e.1 (subst (λ hs. Replays image t hs e.0 (f.harts (suc n))) (sym r.harts) (replays image t log f n e.0 e.1))
 
-  up_to : (n : ℕ) → n ≤ length log → AreRunsTo n
+  up_to : (n : ℕ) → n ≤ length log → AreRunsTo image t log f labelled n
   up_to zero within m le =
       let first : m ≡ 0 = omega arith in
-      subst IsRunTo (sym first) (record { state = opening_state image t; runs = refl; harts = λ i h. sym (f.replay.opens h) i })
+      subst (IsRunTo image t log f labelled) (sym first) (record { state = opening_state image t; runs = refl; harts = λ i h. sym (f.replay.opens h) i })
   up_to (suc n) within m le = by_order (grind arith) (up_to n (omega arith))
     where
-      by_order : (m ≤ n) ⊎ (m ≡ suc n) → AreRunsTo n → IsRunTo m
+      by_order : (m ≤ n) ⊎ (m ≡ suc n) → AreRunsTo image t log f labelled n → IsRunTo image t log f labelled m
       by_order (inl shorter) before = before m shorter
-      by_order (inr same) before = subst IsRunTo (sym same) (next_run n (omega arith) before)
+      by_order (inr same) before = subst (IsRunTo image t log f labelled) (sym same) (next_run n (omega arith) before)
 
   pub is_sequential : IsSequentialRun image t (records_of log)
   is_sequential =

@@ -12,4 +12,5 @@ pub mod Bytes
 pub mod Needs
 pub mod Locks
 pub mod Reserved
+pub mod Events
 pub mod Law

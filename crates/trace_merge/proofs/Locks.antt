@@ -1,11 +1,9 @@
 -- The lock words of the sequential machine are those that a log's accesses of them read.
-use Rattle.dash_event.specs.declared.access.Op.TheVariants.{Load}
-use Rattle.std.proofs.Common.{◌≡◌, ◌⊎◌, inl, inr, ◌<◌, ℕ, suc, ◌+◌, Bool, true, false, List, [], ◌∷◌, length, Option, Some, None, refl, sym, ◌∙◌, ap, subst, arith}
+use Rattle.std.proofs.Common.{◌≡◌, ◌⊎◌, inl, inr, ◌<◌, ℕ, true, false, List, [], ◌∷◌, length, Option, refl, sym, ◌∙◌, ap, subst, arith}
 use Rattle.dash_base.specs.declared.topology.Topology.{Topology}
 use Rattle.elf_load.specs.Image.{ImageView}
 use Rattle.dash_event.specs.Records.{unseen, records_in}
 use Rattle.dash_event.specs.declared.access.Access.{Access}
-use Rattle.dash_event.specs.declared.access.Op.TheVariants as op
 use Rattle.dash_event.specs.declared.event.Event.{Event}
 use Rattle.dash_event.specs.declared.event.Kind.{Kind}
 use Rattle.dash_event.specs.declared.event.Kind.TheVariants as kind
@@ -20,7 +18,6 @@ use Rattle.dash_model.specs.Followed.{IsFollowed}
 use Rattle.trace_merge.proofs.Places.{Origin, from_place, at_place, before_place}
 use Rattle.trace_merge.proofs.Released.{small_records, steps}
 use Rattle.trace_merge.proofs.Facts.{one_event, three, replays}
-use Rattle.trace_merge.proofs.Before.{load_writes_nothing}
 use Rattle.trace_merge.proofs.Writers.{same_word}
 
 served_makes : (k : Kind) (b : Access) → ServesLock k b → records_in k ≡ step.Access (unseen b) ∷ []

@@ -1,6 +1,6 @@
 -- An SC that succeeds in a followed log has its word reserved in the sequential machine.
-use Rattle.std.proofs.Common.{◌≡◌, ◌≢◌, ◌<◌, ℕ, suc, ◌+◌, true, List, [], ◌∷◌, ◌++◌, length, Option, Some, None, refl, sym, ◌∙◌, ap, subst, arith}
-use Rattle.std.specs.Prelude.{IsSome, is_some}
+use Rattle.std.proofs.Common.{◌≡◌, ◌≢◌, ◌<◌, ℕ, List, [], ◌∷◌, ◌++◌, length, Option, Some, None, refl, sym, ◌∙◌, ap, arith}
+use Rattle.std.specs.Prelude.{IsSome}
 use Rattle.dash_base.specs.declared.topology.Topology.{Topology}
 use Rattle.elf_load.specs.Image.{ImageView}
 use Rattle.dash_event.specs.Records.{unseen, accesses_in, records_in}
@@ -12,23 +12,22 @@ use Rattle.dash_event.specs.declared.event.Kind.TheVariants as kind
 use Rattle.dash_event.specs.declared.step_record.StepRecord.TheVariants as step
 use Rattle.flat_model.specs.Offered.{all_bytes}
 use Rattle.flat_model.specs.State.{FlatState}
-use Rattle.flat_model.specs.Step.{is_of_memory, IsFlatStep}
+use Rattle.flat_model.specs.Step.{IsFlatStep}
 use Rattle.flat_model.specs.Run.{RunsTo}
 use Rattle.flat_model.specs.Race.{IsRaceFree}
 use Rattle.flat_model.specs.Order.{IsAccessAt}
 use Rattle.flat_model.specs.Reserved.{IsReserved}
 use Rattle.flat_model.proofs.Offers.{is_offered}
 use Rattle.flat_model.proofs.Reservations.{cond_finds, cond_may_succeed}
-use Rattle.dash_model.specs.Log.{IsEventAt, IsAccessEvent}
-use Rattle.dash_model.specs.Coherent.{IsCommittedBefore}
+use Rattle.dash_model.specs.Log.{IsEventAt}
 use Rattle.dash_model.specs.Followed.{IsReservedBefore, IsFollowed}
-use Rattle.trace_merge.proofs.Places.{Origin, from_place, at_place, place_before, before_place}
+use Rattle.trace_merge.proofs.Places.{from_place, at_place, place_before, before_place}
 use Rattle.trace_merge.proofs.Offers.{has_each}
 use Rattle.trace_merge.proofs.Released.{small_records, steps}
 use Rattle.trace_merge.proofs.Facts.{store_has}
 use Rattle.trace_merge.proofs.Commits.{after_store}
-use Rattle.trace_merge.proofs.Before.{IsConflict, committed_before}
-use Rattle.trace_merge.proofs.Writers.{IsWrite, a_store, a_rmw, IsWriter, writer}
+use Rattle.trace_merge.proofs.Before.{committed_before}
+use Rattle.trace_merge.proofs.Writers.{IsWrite, a_store, a_rmw, writer}
 
 -- a record with an access is of an event that has it
 record IsAccessOf (k : Kind) (r : Access) : Type 0 where

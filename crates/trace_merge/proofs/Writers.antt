@@ -1,6 +1,6 @@
 -- Which events write memory, and which of their commits a version of a line has.
-use Rattle.std.proofs.Common.{◌≡◌, ◌≢◌, ◌⊎◌, inl, inr, ◌<◌, ◌≤◌, ℕ, suc, ◌+◌, Bool, true, false, List, [], ◌∷◌, ◌++◌, length, Option, Some, None, refl, sym, ◌∙◌, ap, subst, arith, eq-eqb}
-use Rattle.std.specs.Prelude.{slice_get, ◌==◌, if◌then◌else◌, is_some}
+use Rattle.std.proofs.Common.{◌≡◌, ◌<◌, ◌≤◌, ℕ, suc, ◌+◌, Bool, true, false, List, [], ◌∷◌, Some, None, refl, sym, ◌∙◌, ap, subst, arith, eq-eqb}
+use Rattle.std.specs.Prelude.{◌==◌, if◌then◌else◌}
 use Rattle.dash_base.specs.Words.{has_byte, byte_of_word, merged, merged_byte, word_of_bytes}
 use Rattle.dash_base.specs.declared.id.HartId.{HartId}
 use Rattle.dash_base.specs.declared.id.LineId.{LineId}
@@ -10,28 +10,22 @@ use Rattle.elf_load.specs.Image.{ImageView}
 use Rattle.dash_event.specs.Places.{line_of}
 use Rattle.dash_event.specs.Records.{unseen, records_in}
 use Rattle.dash_event.specs.declared.access.Access.{Access}
-use Rattle.dash_event.specs.declared.access.Op.TheVariants as op
 use Rattle.dash_event.specs.declared.event.Event.{Event}
 use Rattle.dash_event.specs.declared.event.Kind.{Kind}
 use Rattle.dash_event.specs.declared.event.Kind.TheVariants as kind
-use Rattle.dash_event.specs.declared.step_record.StepRecord.{StepRecord}
 use Rattle.dash_event.specs.declared.step_record.StepRecord.TheVariants as step
 use Rattle.flat_model.specs.Offered.{bytes_under}
 use Rattle.flat_model.specs.Step.{is_of_memory}
 use Rattle.flat_model.specs.Race.{IsRaceFree}
-use Rattle.flat_model.specs.Order.{IsAccessAt}
-use Rattle.flat_model.specs.LastBefore.{LastBefore, NoneBefore, WritesByte, IsByteBefore}
-use Rattle.dash_model.specs.Log.{IsEventAt, IsShown, IsCommitEvent, Commits, commit_in, commits_of, commits_before}
-use Rattle.dash_model.specs.LineContent.{committed, word_at, store_of}
-use Rattle.dash_model.specs.Coherent.{IsCommittedBefore, IsShownOwn}
+use Rattle.flat_model.specs.LastBefore.{WritesByte}
+use Rattle.dash_model.specs.Log.{IsEventAt, Commits, commit_in, commits_before}
+use Rattle.dash_model.specs.LineContent.{committed, store_of}
 use Rattle.dash_model.specs.Followed.{IsFollowed}
-use Rattle.trace_merge.proofs.Places.{upto, Origin, from_place, at_place, place_grows, place_before, before_place, upto_all}
-use Rattle.trace_merge.proofs.Released.{small_records, steps}
-use Rattle.trace_merge.proofs.Facts.{one_event, event_within, three, same_or_not, replays, store_found}
-use Rattle.trace_merge.proofs.Commits.{after_store}
-use Rattle.trace_merge.proofs.Before.{same_hart, load_writes_nothing, shape_of, IsConflict, committed_before, IsWritten, by_store, by_rmw, not_after_commit, free_at}
-use Rattle.trace_merge.proofs.Among.{rmw_shown, commit_order, IsReader, IsAmong, store_among, rmw_among}
-use Rattle.trace_merge.proofs.Content.{IsCommitIn, IsLastCommit, IsNoCommit, IsByteAt, byte_at}
+use Rattle.trace_merge.proofs.Released.{steps}
+use Rattle.trace_merge.proofs.Facts.{one_event, replays, store_found}
+use Rattle.trace_merge.proofs.Before.{load_writes_nothing, shape_of, IsWritten, by_store, by_rmw}
+use Rattle.trace_merge.proofs.Among.{IsReader, IsAmong, store_among, rmw_among}
+use Rattle.trace_merge.proofs.Content.{IsCommitIn}
 
 pub same_word : (v w : WordAddr) → v.0 ≡ w.0 → v ≡ w
 same_word v w e = λ i. record { 0 = e i }
