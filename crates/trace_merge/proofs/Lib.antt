@@ -14,3 +14,10 @@ pub mod Locks
 pub mod Reserved
 pub mod Events
 pub mod Law
+pub mod Written
+pub mod ForwardingCode
+pub mod Forwarding
+pub mod MessageCode
+pub mod MessageEvents
+pub mod Message
+pub mod Recorded

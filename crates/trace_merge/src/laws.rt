@@ -1,5 +1,6 @@
 //! Laws of logs. The functions do nothing: their contracts are the laws.
-ghost use Rattle.trace_merge.specs.OrderLaws.{CommitOrder, OneHartIsInOrder};
+ghost use Rattle.trace_merge.specs.OrderLaws.{CommitOrder, OneHartIsInOrder, AccessesAreRecorded, ConsoleIsRecorded};
+ghost use Rattle.trace_merge.specs.WrittenLogs.{ForwardingIsFollowed, MessageIsFollowed};
 
 /// Where no sequential run of an image has a race, the records of every followed log, each at its order
 /// point, are a sequential run within the budgets.
@@ -10,4 +11,26 @@ pub fn commit_order()
 /// On a machine of one hart the records of every followed log are a sequential run, whatever the image.
 pub fn one_hart_is_in_order()
     ensures { OneHartIsInOrder }
+{}
+
+/// The accesses of a log are those of its records, in the same order, but for what they were shown.
+pub fn accesses_are_recorded()
+    ensures { AccessesAreRecorded }
+{}
+
+/// The console of a log is that of its records.
+pub fn console_is_recorded()
+    ensures { ConsoleIsRecorded }
+{}
+
+/// A written log is followed in which a hart loads its own store, commits it, and loads the version
+/// that it made.
+pub fn forwarding_is_followed()
+    ensures { ForwardingIsFollowed }
+{}
+
+/// A written log of message passing is followed: one hart writes a message and then the flag by a
+/// release, and another reads the flag by an acquire and then the message.
+pub fn message_is_followed()
+    ensures { MessageIsFollowed }
 {}
