@@ -1,0 +1,16 @@
+pub mod LineState
+pub mod Weigh
+pub mod Facts
+pub mod Bursts
+pub mod Rows
+pub mod Cover
+pub mod Versions
+pub mod Steps
+pub mod LineSteps
+pub mod Bounds
+pub mod Along
+pub mod RowsAlong
+pub mod Views
+pub mod Taken
+pub mod Lift
+pub mod Reached

@@ -28,3 +28,5 @@ pub mod Machine
 pub mod LocalRun
 pub mod Complete
 pub mod Weight
+pub mod History
+pub mod OnLine

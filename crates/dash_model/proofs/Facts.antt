@@ -1,0 +1,224 @@
+-- The parts of the invariant of a line: weights of messages, where the token is, and what holds of each cluster.
+use Rattle.std.specs.Prelude.{◌≡◌, ◌⊎◌, ℕ, ◌+◌, ◌≤◌, ◌<◌, ◌==◌, cond, None, Some}
+use Rattle.dash_base.specs.declared.line.Line.{Line}
+use Rattle.dash_msg.specs.declared.msg.Msg.{Msg}
+use Rattle.dash_msg.specs.declared.msg.Msg.TheVariants.{Read, ReadEx, Inval, WriteBack, SharingBack, Transfer, Data, DataEx}
+use Rattle.dash_model.specs.Maps.{weigh, member}
+use Rattle.dash_model.specs.Net.{Packet}
+use Rattle.dash_model.specs.OnLine.{one, reads, datas, wants, brings, naks, gives_back, leaves, gains, invals, invals_at, acks_to, counts_to, shares}
+use Rattle.dash_model.specs.Cell.{Copy, NoCopy, Held, Asked, Poisoned, Came, Refused, Slot, Reads, Owns, Acks, NoAcks, Counting, Expects, Entry, Uncached, SharedBy, Dirty}
+use Rattle.dash_model.proofs.LineState.{State}
+
+-- weights of messages: those that ask to read for x, those with a copy for x, and so on; each message from a to b
+abbrev pub own_invals_msg : ℕ → ℕ → ℕ → Msg → ℕ
+own_invals_msg x a b (Inval l r) = cond (b == x) (one r.0 x) 0
+own_invals_msg x a b _ = 0
+
+abbrev pub misrouted_msg : ℕ → ℕ → ℕ → Msg → ℕ
+misrouted_msg h a b (Read l) = cond (b == h) 0 1
+misrouted_msg h a b (ReadEx l) = cond (b == h) 0 1
+misrouted_msg h a b (WriteBack l d) = cond (b == h) 0 1
+misrouted_msg h a b (SharingBack l d r) = cond (b == h) 0 1
+misrouted_msg h a b (Transfer l r) = cond (b == h) 0 1
+misrouted_msg h a b _ = 0
+
+abbrev pub back_any_msg : Msg → ℕ
+back_any_msg (WriteBack l d) = 1
+back_any_msg (SharingBack l d r) = 1
+back_any_msg _ = 0
+
+abbrev pub own_invals : ℕ → Packet → ℕ
+own_invals x p = own_invals_msg x p.src p.dst p.msg
+
+abbrev pub misrouted : ℕ → Packet → ℕ
+misrouted h p = misrouted_msg h p.src p.dst p.msg
+
+abbrev pub back_any : Packet → ℕ
+back_any p = back_any_msg p.msg
+
+-- where the token is: at home, at an owner or on its way to it, on its way back from one, or passed on from one to another
+pub data Place : Type 0 where
+  AtHome : Place
+  At : (o : ℕ) → Place
+  Back : (o : ℕ) → Place
+  Moving : (o r : ℕ) → Place
+
+abbrev pub holds : Place → ℕ → ℕ
+holds (At o) x = one o x
+holds (Moving o r) x = one r x
+holds _ x = 0
+
+abbrev pub returns : Place → ℕ → ℕ
+returns (Back o) x = one o x
+returns _ x = 0
+
+abbrev pub moves_from : Place → ℕ → ℕ
+moves_from (Moving o r) x = one o x
+moves_from _ x = 0
+
+abbrev pub moves_to : Place → ℕ → ℕ
+moves_to (Moving o r) x = one r x
+moves_to _ x = 0
+
+abbrev pub owner_in : Place → ℕ → ℕ
+owner_in AtHome x = 0
+owner_in (At o) x = one o x
+owner_in (Back o) x = one o x
+owner_in (Moving o r) x = one o x
+
+abbrev pub at_home : Place → ℕ
+at_home AtHome = 1
+at_home _ = 0
+
+abbrev pub is_back : Place → ℕ
+is_back (Back o) = 1
+is_back _ = 0
+
+-- numbers of a cell
+abbrev pub waits_read : Slot → ℕ
+waits_read (Reads n t Asked) = 1
+waits_read (Reads n t Poisoned) = 1
+waits_read _ = 0
+
+abbrev pub waits_own : Slot → ℕ
+waits_own (Owns n t Asked) = 1
+waits_own _ = 0
+
+abbrev pub is_reading : Slot → ℕ
+is_reading (Reads n t s) = 1
+is_reading _ = 0
+
+abbrev pub came_own : Slot → ℕ
+came_own (Owns n t (Came d)) = 1
+came_own _ = 0
+
+abbrev pub came_read : Slot → ℕ
+came_read (Reads n t (Came d)) = 1
+came_read _ = 0
+
+abbrev pub held : Copy → ℕ
+held NoCopy = 0
+held (Held hs o d) = 1
+
+abbrev pub owned : Copy → ℕ
+owned (Held hs (Some o) d) = 1
+owned _ = 0
+
+abbrev pub dirty_of : Entry → ℕ → ℕ
+dirty_of (Dirty o) x = one o x
+dirty_of _ x = 0
+
+abbrev pub clean : Entry → ℕ
+clean (Dirty o) = 0
+clean Uncached = 1
+clean (SharedBy cs) = 1
+
+abbrev pub marked : ℕ → Entry → ℕ
+marked x (SharedBy cs) = cond (member x cs) 1 0
+marked x _ = 0
+
+-- the number, where the slot still waits for data to read
+abbrev pub asked : Slot → ℕ → ℕ
+asked (Reads n t Asked) d = d
+asked _ d = 0
+
+-- requests
+pub record Requests (s : State) (h x : ℕ) : Type 0 where
+  pub read : weigh (reads x) s.net + weigh (datas x) s.net ≤ waits_read (s.cells x).slot
+  pub own : weigh (wants x) s.net + weigh (brings x) s.net ≤ waits_own (s.cells x).slot
+  pub all : weigh (reads x) s.net + weigh (datas x) s.net + weigh (wants x) s.net + weigh (brings x) s.net + weigh (naks x) s.net ≡ waits_read (s.cells x).slot + waits_own (s.cells x).slot
+  pub reading : is_reading (s.cells x).slot + held (s.cells x).copy ≤ 1
+  pub routed : weigh (misrouted h) s.net ≡ 0
+
+-- the token, and the entry
+pub record Tokens (s : State) (p : Place) (x : ℕ) : Type 0 where
+  pub token : owned (s.cells x).copy + came_own (s.cells x).slot + weigh (brings x) s.net ≡ holds p x
+  pub back : weigh (gives_back x) s.net ≡ returns p x
+  pub leaving : weigh (leaves x) s.net ≡ moves_from p x
+  pub gaining : weigh (gains x) s.net ≡ moves_to p x
+  pub entry : dirty_of s.home.entry x ≡ owner_in p x
+  pub home : clean s.home.entry ≡ at_home p
+  pub backs : weigh back_any s.net ≡ is_back p
+
+-- one epoch of invalidations
+pub record Epoch (s : State) (p : Place) (x : ℕ) : Type 0 where
+  pub one_owner : (weigh (invals x) s.net ≡ 0) ⊎ (p ≡ At x)
+  pub others : weigh (own_invals x) s.net ≡ 0
+
+-- counts: a messages count for the cluster, d are announced on their way to it, and h says whether it holds the token
+abbrev pub Counted : Slot → Acks → ℕ → ℕ → ℕ → Type 0
+Counted (Owns n t Asked) (Counting g o) a d h = g + a ≡ d
+Counted (Owns n t Asked) _ a d h = ⊥
+Counted (Owns n t Refused) (Counting g o) a d h = (g + a ≡ 0) × (d ≡ 0)
+Counted (Owns n t Refused) _ a d h = ⊥
+Counted (Owns n t Poisoned) _ a d h = ⊥
+Counted _ NoAcks a d h = (a ≡ 0) × (d ≡ 0)
+Counted _ (Counting g o) a d h = ⊥
+Counted _ (Expects n g o) a d h = (g + a ≡ n) × (g < n) × (d ≡ 0) × (h ≡ 1)
+
+abbrev pub counting : ℕ → State → ℕ
+counting x s = weigh (invals x) s.net + weigh (acks_to x) s.net + weigh (gains x) s.net
+
+pub record Facts (h : ℕ) (s : State) (p : Place) (x : ℕ) : Type 0 where
+  pub requests : Requests s h x
+  pub tokens : Tokens s p x
+  pub epoch : Epoch s p x
+  pub counts : Counted (s.cells x).slot (s.cells x).acks (counting x s) (weigh (counts_to x) s.net) (holds p x)
+
+-- what of the line a cluster has to read from, or is to get
+abbrev pub things : State → ℕ → ℕ
+things s x = held (s.cells x).copy + came_read (s.cells x).slot + asked (s.cells x).slot (weigh (datas x) s.net)
+
+-- coverage
+abbrev pub Cover : State → Place → ℕ → Type 0
+Cover s p x = (holds p x ≡ 1) ⊎ ((things s x ≡ 0) ⊎ (1 ≤ marked x s.home.entry + weigh (shares x) s.net + weigh (invals_at x) s.net))
+
+-- weights of messages that carry another version than v
+abbrev pub other : ℕ → Line → ℕ
+other v d = cond (d.version == v) 0 1
+
+abbrev pub old_brings_msg : ℕ → ℕ → ℕ → ℕ → Msg → ℕ
+old_brings_msg v x a b (DataEx l d n) = cond (b == x) (other v d) 0
+old_brings_msg v x a b _ = 0
+
+abbrev pub old_backs_msg : ℕ → ℕ → ℕ → ℕ → Msg → ℕ
+old_backs_msg v x a b (WriteBack l d) = cond (a == x) (other v d) 0
+old_backs_msg v x a b (SharingBack l d r) = cond (a == x) (other v d) 0
+old_backs_msg v x a b _ = 0
+
+abbrev pub old_datas_msg : ℕ → ℕ → ℕ → ℕ → Msg → ℕ
+old_datas_msg v x a b (Data l d) = cond (b == x) (other v d) 0
+old_datas_msg v x a b _ = 0
+
+abbrev pub old_brings : ℕ → ℕ → Packet → ℕ
+old_brings v x p = old_brings_msg v x p.src p.dst p.msg
+
+abbrev pub old_backs : ℕ → ℕ → Packet → ℕ
+old_backs v x p = old_backs_msg v x p.src p.dst p.msg
+
+abbrev pub old_datas : ℕ → ℕ → Packet → ℕ
+old_datas v x p = old_datas_msg v x p.src p.dst p.msg
+
+abbrev pub owner_off : Copy → ℕ → ℕ
+owner_off (Held hs (Some o) d) v = other v d
+owner_off _ v = 0
+
+abbrev pub shared_off : Copy → ℕ → ℕ
+shared_off (Held hs None d) v = other v d
+shared_off _ v = 0
+
+abbrev pub came_off : Slot → ℕ → ℕ
+came_off (Owns n t (Came d)) v = other v d
+came_off _ v = 0
+
+abbrev pub read_off : Slot → ℕ → ℕ
+read_off (Reads n t (Came d)) v = other v d
+read_off _ v = 0
+
+-- the token has version v, and so has all that is to be read, unless an Inval is on its way to it
+pub record Versions (s : State) (p : Place) (v x : ℕ) : Type 0 where
+  pub brought : weigh (old_brings v x) s.net ≡ 0
+  pub given : weigh (old_backs v x) s.net ≡ 0
+  pub owner : owner_off (s.cells x).copy v + came_off (s.cells x).slot v ≡ 0
+  pub mem : (at_home p ≡ 0) ⊎ (s.home.mem.version ≡ v)
+  pub fresh : (1 ≤ weigh (invals_at x) s.net) ⊎ (shared_off (s.cells x).copy v + read_off (s.cells x).slot v + asked (s.cells x).slot (weigh (old_datas v x) s.net) ≡ 0)
