@@ -5,8 +5,8 @@ use Rattle.dash_msg.specs.declared.msg.Msg.{Msg}
 use Rattle.dash_msg.specs.declared.msg.Msg.TheVariants.{Read, ReadEx, Inval, WriteBack, SharingBack, Transfer, Data, DataEx}
 use Rattle.dash_model.specs.Maps.{weigh, member}
 use Rattle.dash_model.specs.Net.{Packet}
-use Rattle.dash_model.specs.OnLine.{one, reads, datas, wants, brings, naks, gives_back, leaves, gains, invals, invals_at, acks_to, counts_to, shares}
-use Rattle.dash_model.specs.Cell.{Copy, NoCopy, Held, Asked, Poisoned, Came, Refused, Slot, Reads, Owns, Acks, NoAcks, Counting, Expects, Entry, Uncached, SharedBy, Dirty}
+use Rattle.dash_model.specs.OnLine.{came_own, owned, clean, one, reads, datas, wants, brings, naks, gives_back, leaves, gains, invals, invals_at, acks_to, counts_to, shares}
+use Rattle.dash_model.specs.Cell.{Copy, NoCopy, Held, Asked, Poisoned, Came, Refused, Slot, Reads, Owns, Acks, NoAcks, Counting, Expects, Entry, SharedBy, Dirty}
 use Rattle.dash_model.proofs.LineState.{State}
 
 -- weights of messages: those that ask to read for x, those with a copy for x, and so on; each message from a to b
@@ -88,10 +88,6 @@ abbrev pub is_reading : Slot → ℕ
 is_reading (Reads n t s) = 1
 is_reading _ = 0
 
-abbrev pub came_own : Slot → ℕ
-came_own (Owns n t (Came d)) = 1
-came_own _ = 0
-
 abbrev pub came_read : Slot → ℕ
 came_read (Reads n t (Came d)) = 1
 came_read _ = 0
@@ -100,18 +96,9 @@ abbrev pub held : Copy → ℕ
 held NoCopy = 0
 held (Held hs o d) = 1
 
-abbrev pub owned : Copy → ℕ
-owned (Held hs (Some o) d) = 1
-owned _ = 0
-
 abbrev pub dirty_of : Entry → ℕ → ℕ
 dirty_of (Dirty o) x = one o x
 dirty_of _ x = 0
-
-abbrev pub clean : Entry → ℕ
-clean (Dirty o) = 0
-clean Uncached = 1
-clean (SharedBy cs) = 1
 
 abbrev pub marked : ℕ → Entry → ℕ
 marked x (SharedBy cs) = cond (member x cs) 1 0

@@ -14,10 +14,10 @@ use Rattle.dash_model.specs.Acts.{Act, AskRead, AskOwn, Again, Install, Commit, 
 use Rattle.dash_model.specs.Requests.{read_row, own_row, give_read, give_own, is_dirty_of, write_back_row, sharing_back_row, transfer_row}
 use Rattle.dash_msg.specs.Classes.{class_of}
 use Rattle.dash_msg.specs.declared.msg.Msg.TheVariants.{LockAsk, Unlock, LockGrant, UnlockAck}
-use Rattle.dash_model.specs.OnLine.{one, gives_back, leaves, gains}
+use Rattle.dash_model.specs.OnLine.{clean, one, gives_back, leaves, gains}
 use Rattle.dash_model.proofs.LineState.{State, Where, Acts, Takes, apply, after, MayAct, version_after}
 use Rattle.dash_model.proofs.Weigh.{cut}
-use Rattle.dash_model.proofs.Facts.{Place, AtHome, At, Back, Moving, Facts, clean, dirty_of, misrouted}
+use Rattle.dash_model.proofs.Facts.{Place, AtHome, At, Back, Moving, Facts, dirty_of, misrouted}
 use Rattle.dash_model.proofs.Rows as rows
 use Rattle.dash_model.proofs.Steps as steps
 use Rattle.dash_model.proofs.Steps.{Known, Invariant}

@@ -15,11 +15,11 @@ use Rattle.dash_model.specs.Did.{still}
 use Rattle.dash_model.specs.Replies.{nak_slot, nak_acks}
 use Rattle.dash_model.specs.Acts.{AskRead, AskOwn, Again, Install, Commit, Drop, BusRead, BusOwn, again_row, install_row, evict_row}
 use Rattle.dash_model.specs.Requests.{give_read, give_own, invals_to}
-use Rattle.dash_model.specs.OnLine.{brings_msg, counts_to_msg, brings, counts_to, naks, gives_back, leaves, gains}
+use Rattle.dash_model.specs.OnLine.{clean, brings_msg, counts_to_msg, brings, counts_to, naks, gives_back, leaves, gains}
 use Rattle.dash_model.proofs.LineState.{State, Where, Acts, Takes, apply, after, MayAct}
 use Rattle.dash_model.proofs.Weigh.{cut, sends, weigh-only}
 use Rattle.dash_model.proofs.Bursts.{bursts}
-use Rattle.dash_model.proofs.Facts.{Place, AtHome, At, Back, Moving, Facts, clean}
+use Rattle.dash_model.proofs.Facts.{Place, AtHome, At, Back, Moving, Facts}
 
 pub ask_read : (w : Where) (s : State) (p : Place) (i c n t x : ℕ) → MayAct (AskRead n t) (s.cells c) → Facts w.home s p x → Facts w.home s p c → Facts w.home (after w s (Acts i c (AskRead n t))) p x
 ask_read w s p i c n t x may k kc = grind (arith, nat_tests, sends)

@@ -12,8 +12,9 @@ use Rattle.dash_model.specs.Cell.{Held, NoAcks, Uncached, SharedBy, Dirty}
 use Rattle.dash_model.specs.Did.{still}
 use Rattle.dash_model.specs.Acts.{AskRead, AskOwn, Again, Install, Commit, Drop, BusRead, BusOwn, evict_row}
 use Rattle.dash_model.specs.Requests.{give_read, give_own, invals_to}
+use Rattle.dash_model.specs.OnLine.{clean}
 use Rattle.dash_model.proofs.LineState.{State, Where, Acts, Takes, apply, after, IsNext, MayAct}
-use Rattle.dash_model.proofs.Facts.{Place, AtHome, At, Back, Moving, Facts, Cover, Versions, clean}
+use Rattle.dash_model.proofs.Facts.{Place, AtHome, At, Back, Moving, Facts, Cover, Versions}
 use Rattle.dash_model.proofs.Rows as rows
 use Rattle.dash_model.proofs.Cover as cover
 use Rattle.dash_model.proofs.Versions as versions

@@ -14,14 +14,14 @@ use Rattle.dash_model.specs.Cell.{Copy, NoCopy, Held, Asked, Poisoned, Came, Ref
 use Rattle.dash_model.specs.Did.{still}
 use Rattle.dash_model.specs.Acts.{AskRead, AskOwn, Again, Install, Commit, Drop, BusRead, BusOwn, evict_row}
 use Rattle.dash_model.specs.Requests.{give_read, give_own, invals_to}
-use Rattle.dash_model.specs.OnLine.{one, shares, shares_msg, invals_at, datas_msg, brings_msg, gives_back_msg, datas, brings, gives_back}
+use Rattle.dash_model.specs.OnLine.{owned, came_own, clean, one, shares, shares_msg, invals_at, datas_msg, brings_msg, gives_back_msg, datas, brings, gives_back}
 use Rattle.dash_model.proofs.LineState.{State, Where, Acts, Takes, apply, after, MayAct}
 use Rattle.dash_model.proofs.Weigh.{cut, sends, weigh-only}
 use Rattle.dash_model.specs.Acts.{owe, commit_copy}
 use Rattle.dash_model.proofs.LineState.{IsNext}
 use Rattle.dash_model.proofs.Weigh.{send-none}
 use Rattle.dash_model.proofs.Bursts.{vbursts}
-use Rattle.dash_model.proofs.Facts.{Place, AtHome, At, Back, Moving, Facts, Cover, Versions, other, at_home, returns, is_back, held, owned, is_reading, came_own, came_read, asked, owner_off, came_off, shared_off, read_off, marked, clean, back_any, back_any_msg, holds, old_datas_msg, old_brings_msg, old_backs_msg, old_datas, old_brings, old_backs}
+use Rattle.dash_model.proofs.Facts.{Place, AtHome, At, Back, Moving, Facts, Cover, Versions, other, at_home, returns, is_back, held, is_reading, came_read, asked, owner_off, came_off, shared_off, read_off, marked, back_any, back_any_msg, holds, old_datas_msg, old_brings_msg, old_backs_msg, old_datas, old_brings, old_backs}
 
 old_datas_msg_only : (v x a b : ℕ) (m : Msg) → datas_msg x a b m ≡ 0 → old_datas_msg v x a b m ≡ 0
 old_datas_msg_only v x a b (Data l d) e = grind (arith, nat_tests)
@@ -189,10 +189,10 @@ holds_most (At o) x = grind (arith, nat_tests)
 holds_most (Back o) x = grind (arith, nat_tests)
 holds_most (Moving o r) x = grind (arith, nat_tests)
 
-off_not : (v : ℕ) (d : Line) → other v d ≡ 0 → d.version ≡ v
+pub off_not : (v : ℕ) (d : Line) → other v d ≡ 0 → d.version ≡ v
 off_not v d e = grind (arith, nat_tests)
 
-owner_current : (hs : List ℕ) (o : ℕ) (e : Line) (k : Copy) (m r : ℕ) → k ≡ Held hs (Some o) e → owner_off k m + r ≡ 0 → e.version ≡ m
+pub owner_current : (hs : List ℕ) (o : ℕ) (e : Line) (k : Copy) (m r : ℕ) → k ≡ Held hs (Some o) e → owner_off k m + r ≡ 0 → e.version ≡ m
 owner_current hs o e k m r f g = let q : owner_off (Held hs (Some o) e) m + r ≡ 0 = subst (λ k. owner_off k m + r ≡ 0) f g in off_not m e (omega arith)
 
 not_reading : (k : Copy) (b : Slot) (hs : List ℕ) (o : ℕ) (e : Line) → k ≡ Held hs (Some o) e → is_reading b + held k ≤ 1 → is_reading b ≡ 0

@@ -30,3 +30,5 @@ pub mod Complete
 pub mod Weight
 pub mod History
 pub mod OnLine
+pub mod LineFacts
+pub mod MachineLaws

@@ -1,8 +1,9 @@
 -- The messages of a line on their way, and how many of each kind concern a cluster x. A message goes from a to b.
-use Rattle.std.specs.Prelude.{ℕ, ◌+◌, ◌==◌, Bool, false, cond, List, [], ◌∷◌}
+use Rattle.std.specs.Prelude.{ℕ, ◌+◌, ◌==◌, Bool, false, cond, Some, List, [], ◌∷◌}
 use Rattle.dash_msg.specs.declared.msg.Msg.{Msg}
 use Rattle.dash_msg.specs.declared.msg.Msg.TheVariants.{Read, ReadEx, FwdRead, FwdReadEx, Inval, WriteBack, SharingBack, Transfer, LockAsk, Unlock, Data, DataEx, Ack, TransferAck, Nak, LockGrant, UnlockAck}
 use Rattle.dash_model.specs.Net.{Packet}
+use Rattle.dash_model.specs.Cell.{Copy, Held, Came, Slot, Owns, Entry, Uncached, SharedBy, Dirty}
 
 -- whether a message is of line k
 abbrev pub is_of : ℕ → Msg → Bool
@@ -140,3 +141,27 @@ shares_msg x a b _ = 0
 
 abbrev pub shares : ℕ → Packet → ℕ
 shares x p = shares_msg x p.src p.dst p.msg
+
+-- messages by which o tells the home that it passed the line on to x
+abbrev pub passes_msg : ℕ → ℕ → ℕ → ℕ → Msg → ℕ
+passes_msg o x a b (Transfer l r) = cond (a == o) (one r.0 x) 0
+passes_msg o x a b _ = 0
+
+abbrev pub passes : ℕ → ℕ → Packet → ℕ
+passes o x p = passes_msg o x p.src p.dst p.msg
+
+-- 1 where the line came to a slot that is to own it
+abbrev pub came_own : Slot → ℕ
+came_own (Owns n t (Came d)) = 1
+came_own _ = 0
+
+-- 1 where the cluster has an owner
+abbrev pub owned : Copy → ℕ
+owned (Held hs (Some o) d) = 1
+owned _ = 0
+
+-- 1 where the entry is not Dirty
+abbrev pub clean : Entry → ℕ
+clean (Dirty o) = 0
+clean Uncached = 1
+clean (SharedBy cs) = 1

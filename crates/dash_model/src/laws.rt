@@ -1,1 +1,37 @@
 //! Laws of the definitions. The functions do nothing: their contracts are the laws.
+ghost use Rattle.dash_model.specs.LineFacts.{RunsKeepLines};
+ghost use Rattle.dash_model.specs.MachineLaws.{EventsFixEffects, LanesAreQueues, StepsChangeOnePart, StampsRise, CasesApply};
+
+/// Every run keeps the facts of each line of memory: one token, which is current; an entry that knows
+/// where it is; one answer to each request; exact counts of acknowledgements; an invalidation on its
+/// way to whatever is stale; each cluster with a copy covered by the home; and one epoch of
+/// invalidations at a time.
+pub fn runs_keep_lines()
+    ensures { RunsKeepLines }
+{}
+
+/// In every run, where a message of a line of memory is taken, a case of its row applies.
+pub fn cases_apply()
+    ensures { CasesApply }
+{}
+
+/// Each event fixes its effect: what its fields leave out makes no difference.
+pub fn events_fix_effects()
+    ensures { EventsFixEffects }
+{}
+
+/// A lane is first in, first out.
+pub fn lanes_are_queues()
+    ensures { LanesAreQueues }
+{}
+
+/// A step changes the part of its own cluster, takes at most the head of one lane, and adds at the
+/// ends of its own lanes and of the console.
+pub fn steps_change_one_part()
+    ensures { StepsChangeOnePart }
+{}
+
+/// In every run the stamps of a cluster's events rise, up to the greatest stamp.
+pub fn stamps_rise()
+    ensures { StampsRise }
+{}

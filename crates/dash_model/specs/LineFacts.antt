@@ -1,0 +1,145 @@
+-- What every run keeps of each line of memory: one token, an entry that knows where it is, an answer to each request, exact counts of acknowledgements, and an invalidation for whatever is stale.
+use Rattle.std.specs.Prelude.{◌≡◌, ◌≢◌, ◌⊎◌, ℕ, ◌+◌, ◌≤◌, ◌<◌, true, Option, Some, List, [], ◌∷◌}
+use Rattle.dash_base.specs.declared.id.ClusterId.{ClusterId}
+use Rattle.dash_base.specs.declared.id.LineId.{LineId}
+use Rattle.dash_base.specs.declared.line.Line.{Line}
+use Rattle.dash_msg.specs.declared.msg.Msg.TheVariants.{Inval, WriteBack, SharingBack, Data, DataEx}
+use Rattle.dash_event.specs.declared.event.Event.{Event}
+use Rattle.dash_model.specs.Maps.{weigh, member}
+use Rattle.dash_model.specs.Config.{Config, lines, home_of}
+use Rattle.dash_model.specs.Net.{Packet}
+use Rattle.dash_model.specs.OnLine.{on, owned, came_own, clean, reads, datas, wants, brings, naks, gives_back, gains, invals, invals_at, acks_to, counts_to, shares, passes}
+use Rattle.dash_model.specs.Cell.{NoCopy, Held, Asked, Poisoned, Came, Slot, Reads, Owns, Acks, NoAcks, Counting, Expects, Entry, SharedBy, Dirty, Cell, Home}
+use Rattle.dash_model.specs.Machine.{Machine, Reaches}
+use Rattle.dash_model.specs.History.{version_from}
+
+-- line l at cluster c, at its home, and on its way
+abbrev pub cell_at : ℕ → Machine → ℕ → Cell
+cell_at l m c = (m.parts c).cells l
+
+abbrev pub home_at : Config → ℕ → Machine → Home
+home_at w l m = (m.parts (home_of w l)).homes l
+
+abbrev pub IsOnItsWay : Packet → List Packet → Type 0
+IsOnItsWay q [] = ⊥
+IsOnItsWay q (p ∷ ps) = (q ≡ p) ⊎ IsOnItsWay q ps
+
+-- where the token may be: in the home's memory, with an owner, in a slot that is to own the line, on its way to one, or on its way back from an owner
+pub data Holder : Type 0 where
+  InMemory : Holder
+  OwnerAt SlotAt ComingTo ReturningFrom : (cluster : ℕ) → Holder
+
+-- how many tokens are there
+abbrev pub tokens_at : Config → ℕ → Machine → Holder → ℕ
+tokens_at w l m InMemory = clean (home_at w l m).entry
+tokens_at w l m (OwnerAt c) = owned (cell_at l m c).copy
+tokens_at w l m (SlotAt c) = came_own (cell_at l m c).slot
+tokens_at w l m (ComingTo c) = weigh (brings c) (on l m.net)
+tokens_at w l m (ReturningFrom c) = weigh (gives_back c) (on l m.net)
+
+-- exactly one place has the token, and its content has the line's current version v
+pub record Token (w : Config) (l v : ℕ) (m : Machine) : Type 0 where
+  pub holder : Holder
+  pub there : tokens_at w l m holder ≡ 1
+  pub alone : (other : Holder) → other ≢ holder → tokens_at w l m other ≡ 0
+  pub memory : clean (home_at w l m).entry ≡ 1 → (home_at w l m).mem.version ≡ v
+  pub owner : (c : ℕ) (hs : List ℕ) (o : ℕ) (d : Line) → (cell_at l m c).copy ≡ Held hs (Some o) d → d.version ≡ v
+  pub slot : (c n h : ℕ) (d : Line) → (cell_at l m c).slot ≡ Owns n h (Came d) → d.version ≡ v
+  pub coming : (q : Packet) (k : LineId) (d : Line) (count : ℕ) → IsOnItsWay q (on l m.net) → q.msg ≡ DataEx k d count → d.version ≡ v
+  pub returning : (q : Packet) (k : LineId) (d : Line) → IsOnItsWay q (on l m.net) → q.msg ≡ WriteBack k d → d.version ≡ v
+  pub sharing : (q : Packet) (k : LineId) (d : Line) (r : ClusterId) → IsOnItsWay q (on l m.net) → q.msg ≡ SharingBack k d r → d.version ≡ v
+
+-- the token is at cluster c, or on its way to it
+abbrev pub tokens_for : ℕ → Machine → ℕ → ℕ
+tokens_for l m c = owned (cell_at l m c).copy + came_own (cell_at l m c).slot + weigh (brings c) (on l m.net)
+
+-- what an entry that is Dirty of cluster o means: the token is at o or on its way to it, or on its way back from it, or o passed it on to r, which the home is about to learn
+pub data IsOwnedBy (l : ℕ) (m : Machine) (o : ℕ) : Type 0 where
+  ThereOrComing : tokens_for l m o ≡ 1 → IsOwnedBy l m o
+  Returning : weigh (gives_back o) (on l m.net) ≡ 1 → IsOwnedBy l m o
+  Passed : (r : ℕ) → weigh (passes o r) (on l m.net) ≡ 1 → tokens_for l m r ≡ 1 → IsOwnedBy l m o
+
+-- the entry is Dirty exactly where the token is not in the home's memory, and names who has it
+pub record EntryKnows (w : Config) (l : ℕ) (m : Machine) : Type 0 where
+  pub clean_at_home : clean (home_at w l m).entry ≡ 1 → (c : ℕ) → (tokens_for l m c ≡ 0) × (weigh (gives_back c) (on l m.net) ≡ 0)
+  pub names : (o : ℕ) → (home_at w l m).entry ≡ Dirty o → IsOwnedBy l m o
+
+-- whether a slot waits for an answer, and whether one to read, or one to own, does
+abbrev pub waiting_slots : Slot → ℕ
+waiting_slots (Reads n h Asked) = 1
+waiting_slots (Reads n h Poisoned) = 1
+waiting_slots (Owns n h Asked) = 1
+waiting_slots (Owns n h Poisoned) = 1
+waiting_slots s = 0
+
+abbrev pub IsReading : Slot → Type 0
+IsReading (Reads n h phase) = Unit {0}
+IsReading s = ⊥
+
+abbrev pub IsOwning : Slot → Type 0
+IsOwning (Owns n h phase) = Unit {0}
+IsOwning s = ⊥
+
+-- each slot that waits has one message that asks for it or answers it, and there is no such message without its slot
+pub record OneAnswer (l : ℕ) (m : Machine) (c : ℕ) : Type 0 where
+  pub one_each : weigh (reads c) (on l m.net) + weigh (datas c) (on l m.net) + weigh (wants c) (on l m.net) + weigh (brings c) (on l m.net) + weigh (naks c) (on l m.net) ≡ waiting_slots (cell_at l m c).slot
+  pub to_read : 1 ≤ weigh (reads c) (on l m.net) + weigh (datas c) (on l m.net) → IsReading (cell_at l m c).slot
+  pub to_own : 1 ≤ weigh (wants c) (on l m.net) + weigh (brings c) (on l m.net) → IsOwning (cell_at l m c).slot
+
+-- what counts for cluster c: invalidations and acknowledgements, and what tells the home that c has the line
+abbrev pub counting_for : ℕ → Machine → ℕ → ℕ
+counting_for l m c = weigh (invals c) (on l m.net) + weigh (acks_to c) (on l m.net) + weigh (gains c) (on l m.net)
+
+-- with what came already this is the number expected; where that isn't known yet, the number that is announced on its way
+abbrev pub CountsAdd : Acks → ℕ → ℕ → Type 0
+CountsAdd NoAcks counting announced = Unit {0}
+CountsAdd (Counting got owed) counting announced = got + counting ≡ announced
+CountsAdd (Expects expected got owed) counting announced = got + counting ≡ expected
+
+abbrev pub CountIsExact : ℕ → Machine → ℕ → Type 0
+CountIsExact l m c = CountsAdd (cell_at l m c).acks (counting_for l m c) (weigh (counts_to c) (on l m.net))
+
+-- an invalidation is on its way to cluster c
+abbrev pub IsInvalidated : ℕ → Machine → ℕ → Type 0
+IsInvalidated l m c = 1 ≤ weigh (invals_at c) (on l m.net)
+
+-- what cluster c has of the line to read from is current, or an invalidation is on its way to c: its copy, what came to a slot, and what is on its way to one that waits for it
+pub record StaleIsInvalidated (l v : ℕ) (m : Machine) (c : ℕ) : Type 0 where
+  pub copy : (hs : List ℕ) (o : Option ℕ) (d : Line) → (cell_at l m c).copy ≡ Held hs o d → (d.version ≡ v) ⊎ IsInvalidated l m c
+  pub slot : (n h : ℕ) (d : Line) → (cell_at l m c).slot ≡ Reads n h (Came d) → (d.version ≡ v) ⊎ IsInvalidated l m c
+  pub coming : (n h : ℕ) (q : Packet) (k : LineId) (d : Line) → (cell_at l m c).slot ≡ Reads n h Asked → IsOnItsWay q (on l m.net) → q.dst ≡ c → q.msg ≡ Data k d → (d.version ≡ v) ⊎ IsInvalidated l m c
+
+-- cluster c has something of the line to read from
+pub data HasThing (l : ℕ) (m : Machine) (c : ℕ) : Type 0 where
+  ByCopy : (cell_at l m c).copy ≢ NoCopy → HasThing l m c
+  BySlot : (n h : ℕ) (d : Line) → (cell_at l m c).slot ≡ Reads n h (Came d) → HasThing l m c
+  ByData : (n h : ℕ) → (cell_at l m c).slot ≡ Reads n h Asked → 1 ≤ weigh (datas c) (on l m.net) → HasThing l m c
+
+abbrev pub IsMarked : ℕ → Entry → Type 0
+IsMarked c (SharedBy cs) = member c cs ≡ true
+IsMarked c e = ⊥
+
+-- the home will not forget cluster c: it has or gets the token, it is marked, a message tells the home of its copy, or it is being invalidated
+pub data IsCovered (w : Config) (l : ℕ) (m : Machine) (c : ℕ) : Type 0 where
+  ByToken : tokens_for l m c ≡ 1 → IsCovered w l m c
+  ByMark : IsMarked c (home_at w l m).entry → IsCovered w l m c
+  BySharing : 1 ≤ weigh (shares c) (on l m.net) → IsCovered w l m c
+  ByInval : IsInvalidated l m c → IsCovered w l m c
+
+-- each invalidation names the cluster that the entry is Dirty of, and that cluster counts
+pub record OneEpoch (w : Config) (l : ℕ) (m : Machine) : Type 0 where
+  pub entry : (q : Packet) (k : LineId) (r : ClusterId) → IsOnItsWay q (on l m.net) → q.msg ≡ Inval k r → (home_at w l m).entry ≡ Dirty r.0
+  pub acks : (q : Packet) (k : LineId) (r : ClusterId) → IsOnItsWay q (on l m.net) → q.msg ≡ Inval k r → (cell_at l m r.0).acks ≢ NoAcks
+
+pub record LineFacts (w : Config) (l v : ℕ) (m : Machine) : Type 0 where
+  pub token : Token w l v m
+  pub entry : EntryKnows w l m
+  pub requests : (c : ℕ) → OneAnswer l m c
+  pub counts : (c : ℕ) → CountIsExact l m c
+  pub stale : (c : ℕ) → StaleIsInvalidated l v m c
+  pub coverage : (c : ℕ) → HasThing l m c → IsCovered w l m c
+  pub one_epoch : OneEpoch w l m
+
+-- every run keeps them, of each line of memory, whose version is the number of its commits
+abbrev pub RunsKeepLines : Type 0
+RunsKeepLines = (w : Config) (log : List Event) (m : Machine) (l : ℕ) → l < lines w → Reaches w log m → LineFacts w l (version_from l 0 log) m

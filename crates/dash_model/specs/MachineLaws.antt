@@ -1,0 +1,62 @@
+-- What the laws of the machine say.
+use Rattle.std.specs.Prelude.{◌≡◌, ◌≢◌, ◌⊎◌, ℕ, ◌<◌, ◌≤◌, true, Some, List, [], ◌∷◌, ◌++◌, map}
+use Rattle.dash_msg.specs.Classes.{class_of}
+use Rattle.dash_msg.specs.declared.classes.Class.{Class}
+use Rattle.dash_msg.specs.declared.msg.Msg.{Msg}
+use Rattle.dash_msg.specs.declared.parcel.Sent.{Sent}
+use Rattle.dash_event.specs.declared.event.Event.{Event}
+use Rattle.dash_event.specs.declared.event.Kind.TheVariants.{Take}
+use Rattle.dash_base.specs.declared.id.ClusterId.{ClusterId}
+use Rattle.dash_model.specs.Maps.{most}
+use Rattle.dash_model.specs.Config.{Config, lines}
+use Rattle.dash_model.specs.Net.{Packet, packet, lane, head, tail, first, rest, send}
+use Rattle.dash_model.specs.Ranges.{applies}
+use Rattle.dash_model.specs.Machine.{Machine, Step, taken, less, sends, puts, CanHappen, after, IsRun, Reaches}
+use Rattle.dash_model.specs.LocalRun.{events_of}
+use Rattle.dash_model.specs.OnLine.{is_of}
+
+-- two steps of one event make one machine of a machine, and two runs of one log reach one state
+abbrev pub EventsFixEffects : Type 0
+EventsFixEffects =
+    ((w : Config) (m : Machine) (g h : Step) → g.event ≡ h.event → CanHappen w m g → CanHappen w m h → after w m g ≡ after w m h)
+    × ((w : Config) (log : List Event) (m n : Machine) → Reaches w log m → Reaches w log n → m ≡ n)
+
+-- a lane as a queue: its head is its first, without the head is its rest, and what is sent joins its end; another lane is left
+pub record IsQueue (a b : ℕ) (k : Class) (net : List Packet) : Type 0 where
+  pub head_is : head a b k net ≡ first (lane a b k net)
+  pub tail_is : lane a b k (tail a b k net) ≡ rest (lane a b k net)
+  pub tail_of_other : (c d : ℕ) (j : Class) → ((c ≡ a) × (d ≡ b) × (j ≡ k) → ⊥) → lane a b k (tail c d j net) ≡ lane a b k net
+  pub joins : (t c : ℕ) (ss : List Sent) → lane a b k (send net t c ss) ≡ lane a b k net ++ lane a b k (map (packet t c) ss)
+
+abbrev pub LanesAreQueues : Type 0
+LanesAreQueues = (a b : ℕ) (k : Class) (net : List Packet) → IsQueue a b k net
+
+-- the one message that a step takes is the head of its lane, which ends at the step's cluster
+pub record TakesHead (w : Config) (m : Machine) (g : Step) : Type 0 where
+  pub parcel : Packet
+  pub only : taken g.event.cluster.0 g.stamp g.event.kind ≡ parcel ∷ []
+  pub to_it : parcel.dst ≡ g.event.cluster.0
+  pub is_head : head parcel.src parcel.dst (class_of parcel.msg) m.net ≡ Some parcel
+
+-- what a step changes of the machine
+pub record ChangesOnePart (w : Config) (m : Machine) (g : Step) : Type 0 where
+  pub parts : (c : ℕ) → c ≢ g.event.cluster.0 → (after w m g).parts c ≡ m.parts c
+  pub takes : (taken g.event.cluster.0 g.stamp g.event.kind ≡ []) ⊎ TakesHead w m g
+  pub lanes : (a b : ℕ) (k : Class) → lane a b k (after w m g).net ≡ lane a b k (less (taken g.event.cluster.0 g.stamp g.event.kind) m.net) ++ lane a b k (sends w g.event.cluster.0 g (m.parts g.event.cluster.0))
+  pub others : (a b : ℕ) (k : Class) → a ≢ g.event.cluster.0 → lane a b k (sends w g.event.cluster.0 g (m.parts g.event.cluster.0)) ≡ []
+  pub console : (after w m g).console ≡ m.console ++ puts g.event.kind
+
+abbrev pub StepsChangeOnePart : Type 0
+StepsChangeOnePart = (w : Config) (m : Machine) (g : Step) → CanHappen w m g → ChangesOnePart w m g
+
+-- stamps of a list of events rise; once the greatest stamp is reached, they never fall
+abbrev pub StampsFrom : ℕ → List Event → Type 0
+StampsFrom last [] = Unit {0}
+StampsFrom last (e ∷ es) = ((last < e.stamp) ⊎ ((most ≤ last) × (last ≤ e.stamp))) × StampsFrom e.stamp es
+
+abbrev pub StampsRise : Type 0
+StampsRise = (w : Config) (log : List Event) (c : ℕ) → IsRun w log → StampsFrom 0 (events_of c log)
+
+-- a case applies wherever a message of a line of memory can be taken
+abbrev pub CasesApply : Type 0
+CasesApply = (w : Config) (log : List Event) (m : Machine) (g : Step) (f : ClusterId) (x : Msg) (l : ℕ) → l < lines w → is_of l x ≡ true → Reaches w log m → CanHappen w m g → g.event.kind ≡ Take f x → applies w g.event.cluster.0 x (m.parts g.event.cluster.0) ≡ true
