@@ -14,6 +14,7 @@ pub mod Views
 pub mod Taken
 pub mod Lift
 pub mod Reached
+pub mod Counts
 pub mod LineFacts
 pub mod Lanes
 pub mod Effects

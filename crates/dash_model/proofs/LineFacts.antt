@@ -13,13 +13,14 @@ use Rattle.dash_model.specs.Net.{Packet}
 use Rattle.dash_model.specs.OnLine.{one, on, clean, reads, datas, wants, brings, gives_back, leaves, gains, invals, invals_at, counts_to, shares, passes, gains_msg, leaves_msg, passes_msg, invals_msg}
 use Rattle.dash_model.specs.Cell.{Copy, NoCopy, Held, Asked, Poisoned, Came, Refused, Slot, NoSlot, Reads, Owns, Acks, NoAcks, Counting, Expects, Entry, Uncached, SharedBy, Dirty}
 use Rattle.dash_model.specs.Machine.{Machine, Reaches}
-use Rattle.dash_model.specs.History.{version_from}
+use Rattle.dash_model.specs.History.{version_from, version_of}
 use Rattle.dash_model.specs.LineFacts.{IsOnItsWay, Holder, InMemory, OwnerAt, SlotAt, ComingTo, ReturningFrom, tokens_at, Token, tokens_for, IsOwnedBy, ThereOrComing, Returning, Passed, waiting_slots, IsReading, IsOwning, CountsAdd, HasThing, ByCopy, BySlot, ByData, IsMarked, IsCovered, ByToken, ByMark, BySharing, ByInval, LineFacts}
 use Rattle.dash_model.proofs.LineState.{State}
 use Rattle.dash_model.proofs.Facts.{Place, AtHome, At, Back, Moving, Facts, Cover, Versions, Counted, counting, holds, at_home, dirty_of, owner_in, marked, things, held, came_read, asked, other, owner_off, came_off, shared_off, read_off, old_brings, old_backs, old_datas, old_brings_msg, old_backs_msg, old_datas_msg, waits_read, waits_own}
 use Rattle.dash_model.proofs.Versions.{off_not, owner_current}
 use Rattle.dash_model.proofs.Steps.{Invariant}
 use Rattle.dash_model.proofs.Along.{along, same_or_not}
+use Rattle.dash_model.proofs.Counts.{version-of}
 use Rattle.dash_model.proofs.Reached.{each_reached}
 
 -- a message that is on its way weighs
@@ -315,5 +316,5 @@ facts w l v m i = record {
   };
 }
 
-pub runs_keep_lines : (w : Config) (log : List Event) (m : Machine) (l : ℕ) → l < lines w → Reaches w log m → LineFacts w l (version_from l 0 log) m
-runs_keep_lines w log m l i r = facts w l (version_from l 0 log) m (each_reached w log m l i r).invariant
+pub runs_keep_lines : (w : Config) (log : List Event) (m : Machine) (l : ℕ) → l < lines w → Reaches w log m → LineFacts w l (version_of log l) m
+runs_keep_lines w log m l i r = subst (λ v. LineFacts w l v m) (version-of l log) (facts w l (version_from l 0 log) m (each_reached w log m l i r).invariant)

@@ -5,6 +5,7 @@ use Rattle.dash_base.specs.declared.id.HartId.{HartId}
 use Rattle.dash_base.specs.declared.id.LineId.{LineId}
 use Rattle.dash_base.specs.declared.line.Line.{Line}
 use Rattle.dash_base.specs.declared.topology.Topology.{Topology}
+use Rattle.dash_event.specs.Places.{cluster_of as hart_cluster, line_of}
 use Rattle.elf_load.specs.Image.{ImageView, opening_word}
 use Rattle.hart_core.specs.Access.{in_locks}
 use Rattle.hart_core.specs.Opening.{hart_count}
@@ -29,7 +30,7 @@ all_harts w = hart_count w.top
 
 -- the cluster of a hart
 abbrev pub cluster_of : Config → ℕ → ℕ
-cluster_of w h = h / w.top.harts
+cluster_of w h = (hart_cluster w.top (hart_id h)).0
 
 -- how many lines memory has
 abbrev pub lines : Config → ℕ
@@ -41,7 +42,7 @@ home_of w l = l % w.top.clusters
 
 -- the line of an address, and the place of the address's word in it
 abbrev pub line_at : Config → ℕ → ℕ
-line_at w address = (address - w.top.base) / 16
+line_at w address = (line_of w.top (record { 0 = address })).0
 
 abbrev pub place_of : Config → ℕ → ℕ
 place_of w address = (address - w.top.base) % 16 / 4

@@ -1,9 +1,11 @@
 -- The versions that events give a line.
-use Rattle.std.specs.Prelude.{ℕ, ◌==◌, Bool, false, cond, List, [], ◌∷◌}
+use Rattle.std.specs.Prelude.{ℕ, ◌==◌, Bool, false, cond, min, List, [], ◌∷◌, length}
 use Rattle.dash_event.specs.declared.event.Event.{Event}
 use Rattle.dash_event.specs.declared.event.Kind.{Kind}
 use Rattle.dash_event.specs.declared.event.Kind.TheVariants.{Commit, Rmw}
 use Rattle.dash_model.specs.Maps.{raised, most}
+use Rattle.dash_model.specs.Config.{line_id}
+use Rattle.dash_model.specs.Log.{commits_of}
 
 -- whether an event commits a version of line l
 abbrev pub commits_line : ℕ → Kind → Bool
@@ -19,3 +21,7 @@ version_by l v e = cond (commits_line l e) (raised most v) v
 abbrev pub version_from : ℕ → ℕ → List Event → ℕ
 version_from l v [] = v
 version_from l v (e ∷ es) = version_from l (version_by l v e.kind) es
+
+-- the same by the list of the line's commits
+abbrev pub version_of : List Event → ℕ → ℕ
+version_of log l = min (length (commits_of log (line_id l))) most

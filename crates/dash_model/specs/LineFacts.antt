@@ -11,7 +11,7 @@ use Rattle.dash_model.specs.Net.{Packet}
 use Rattle.dash_model.specs.OnLine.{on, owned, came_own, clean, reads, datas, wants, brings, naks, gives_back, gains, invals, invals_at, acks_to, counts_to, shares, passes}
 use Rattle.dash_model.specs.Cell.{NoCopy, Held, Asked, Poisoned, Came, Slot, Reads, Owns, Acks, NoAcks, Counting, Expects, Entry, SharedBy, Dirty, Cell, Home}
 use Rattle.dash_model.specs.Machine.{Machine, Reaches}
-use Rattle.dash_model.specs.History.{version_from}
+use Rattle.dash_model.specs.History.{version_of}
 
 -- line l at cluster c, at its home, and on its way
 abbrev pub cell_at : ℕ → Machine → ℕ → Cell
@@ -140,6 +140,6 @@ pub record LineFacts (w : Config) (l v : ℕ) (m : Machine) : Type 0 where
   pub coverage : (c : ℕ) → HasThing l m c → IsCovered w l m c
   pub one_epoch : OneEpoch w l m
 
--- every run keeps them, of each line of memory, whose version is the number of its commits
+-- every run keeps them, of each line of memory, whose version is the number of its commits, or the greatest version
 abbrev pub RunsKeepLines : Type 0
-RunsKeepLines = (w : Config) (log : List Event) (m : Machine) (l : ℕ) → l < lines w → Reaches w log m → LineFacts w l (version_from l 0 log) m
+RunsKeepLines = (w : Config) (log : List Event) (m : Machine) (l : ℕ) → l < lines w → Reaches w log m → LineFacts w l (version_of log l) m
