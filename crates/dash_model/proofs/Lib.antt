@@ -19,3 +19,4 @@ pub mod LineFacts
 pub mod Lanes
 pub mod Effects
 pub mod Changes
+pub mod Example

@@ -32,3 +32,4 @@ pub mod History
 pub mod OnLine
 pub mod LineFacts
 pub mod MachineLaws
+pub mod Example

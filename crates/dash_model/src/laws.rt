@@ -1,4 +1,5 @@
 //! Laws of the definitions. The functions do nothing: their contracts are the laws.
+ghost use Rattle.dash_model.specs.Example.{ExampleRuns};
 ghost use Rattle.dash_model.specs.LineFacts.{RunsKeepLines};
 ghost use Rattle.dash_model.specs.MachineLaws.{EventsFixEffects, LanesAreQueues, StepsChangeOnePart, StampsRise, CasesApply};
 
@@ -34,4 +35,10 @@ pub fn steps_change_one_part()
 /// In every run the stamps of a cluster's events rise, up to the greatest stamp.
 pub fn stamps_rise()
     ensures { StampsRise }
+{}
+
+/// There are runs: one hart asks for a line, gets it, installs it and loads from it, and then asks for
+/// a lock word and is granted it.
+pub fn a_run_of_nine_events()
+    ensures { ExampleRuns }
 {}
