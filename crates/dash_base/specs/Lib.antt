@@ -1,5 +1,4 @@
 pub mod Ranges
-pub mod Operations
 pub mod Words
 pub mod Segment
 pub mod Bounds

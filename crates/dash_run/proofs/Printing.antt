@@ -16,13 +16,6 @@ append_twice to a b p q r first second = record {
   others = second.others ∙ first.others;
 }
 
-pub both_printed : (to : Stream) (a b : List ℕ) (p q r : Option Printed)
-    → Follows (Appends to a) p q → Follows (Appends to b) q r → Follows (Appends to (a ++ b)) p r
-both_printed to a b p q None first second = tt
-both_printed to a b p None (Some r) first second = absurd second
-both_printed to a b None (Some q) (Some r) first second = absurd first
-both_printed to a b (Some p) (Some q) (Some r) first second = append_twice to a b p q r first second
-
 -- a part of the first text
 pub first_part : (to : Stream) (a b : List ℕ) (p q : Option Printed)
     → Follows (AppendsPart to a) p q → Follows (AppendsPart to (a ++ b)) p q

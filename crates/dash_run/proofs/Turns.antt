@@ -76,12 +76,6 @@ none_passed count next h inside here passed = by_case (turn_cases next count ins
   by_case : ((next + 1 ≡ count) × (turn_after next count ≡ 0)) ⊎ ((next + 1 < count) × (turn_after next count ≡ next + 1)) → ⊥
   by_case any = none_at (turn_after next count) passed
 
-pub turn_inside : (next count : ℕ) → next < count → turn_after next count < count
-turn_inside next count inside = by_case (turn_cases next count inside) where
-  by_case : ((next + 1 ≡ count) × (turn_after next count ≡ 0)) ⊎ ((next + 1 < count) × (turn_after next count ≡ next + 1)) → turn_after next count < count
-  by_case (inl (same, first)) = omega arith
-  by_case (inr (below, is)) = omega arith
-
 lt_or_le : (a b : ℕ) → (a < b) ⊎ (b ≤ a)
 lt_or_le a zero = inr (omega arith)
 lt_or_le zero (suc b) = inl (omega arith)
@@ -96,13 +90,6 @@ all_passed count next idle h inside here enough = decided (lt_or_le h next) wher
   decided : (h < next) ⊎ (next ≤ h) → IsPassed count next idle h
   decided (inl below) = inl (below, omega arith)
   decided (inr above) = inr (omega arith)
-
--- there are at most 64 harts, and at least one
-pub few_harts : (t : Topology) → hart_count t ≤ 64
-few_harts t =
-    let clusters = t.clusters_in_range.high in
-    let harts = t.harts_in_range.high in
-    grind arith
 
 pub some_harts : (t : Topology) → 0 < hart_count t
 some_harts t =

@@ -81,13 +81,3 @@ module _ (c k lines : ℕ) (ks : List HomeLine) (kept : AreKept c k lines ks) (q
 
 pub whole : (c k lines : ℕ) (ks : List HomeLine) → AreKept c k lines ks → IsWhole (home_of c k lines ks)
 whole c k lines ks kept = record { each = λ q. whole_at c k lines ks kept q }
-
--- the list is as long with another line
-pub kept-set : (c k lines : ℕ) (ks : List HomeLine) (i : ℕ) (x : HomeLine) → AreKept c k lines ks → AreKept c k lines (set ks i x)
-kept-set c k lines ks i x kept = record {
-  cluster_in_range = kept.cluster_in_range;
-  clusters_in_range = kept.clusters_in_range;
-  lines_in_range = kept.lines_in_range;
-  there = λ place below. grind (arith, length-set ks i x, kept.there place);
-  within = λ place low. kept.within place (grind (arith, length-set ks i x));
-}

@@ -1,8 +1,7 @@
 -- Segments of which each begins where the one before it ends, or behind: no two share an address.
-use Rattle.std.proofs.Common.{◌≡◌, ◌≤◌, ◌<◌, ◌+◌, ℕ, zero, suc, inl, inr, Bool, true, false, ◌&&◌, not, nat_lt, List, [], ◌∷◌, Option, Some, None, length, drop, get_or, find, refl, sym, ◌∙◌, ap, subst, arith}
+use Rattle.std.proofs.Common.{◌≡◌, ◌≤◌, ◌<◌, ◌+◌, ℕ, zero, suc, inl, inr, Bool, true, false, ◌&&◌, not, nat_lt, List, [], ◌∷◌, Option, Some, None, length, get_or, find, refl, sym, ◌∙◌, ap, subst, arith}
 use Rattle.std.specs.List.{Contains}
 use Rattle.std.specs.Option.{option_map, option_and_then}
-use Rattle.std.proofs.Math.Seq.{drop-cons}
 use Rattle.std.specs.List.Sorted.{IsPermutation}
 use Rattle.std.proofs.lemmas.Bool.Decides.{nat_tests}
 use Rattle.std.proofs.lemmas.List.Sorted.{Contains-permutation}
@@ -77,12 +76,3 @@ pub among_permutation : (xs ys : List Numbered) (x : Numbered) → IsPermutation
 among_permutation xs ys x moved among =
     let there = Contains-permutation xs ys x moved (place_of xs x among) in
     at_place ys x x there.0 there.1 there.2
-
--- one step of the test
-pub rises_step : (reach : ℕ) (segments : List Numbered) (i : ℕ) (s : Numbered) → i < length segments → s ≡ get_or segments i s
-    → rises_from reach (drop i segments) ≡ (not (nat_lt (s.header).p_vaddr reach) && rises_from ((s.header).p_vaddr + (s.header).p_memsz) (drop (i + 1) segments))
-rises_step reach segments i s inside is =
-    let next : suc i ≡ i + 1 = omega arith in
-    let rest : drop i segments ≡ s ∷ drop (i + 1) segments =
-    drop-cons segments i s inside ∙ ap (λ (x : Numbered). x ∷ drop (suc i) segments) (sym is) ∙ ap (λ n. s ∷ drop n segments) next in
-    ap (rises_from reach) rest

@@ -90,12 +90,6 @@ pub clear_12 : (bytes : List ℕ) (map : MemoryMap) (segments : List Numbered) �
 clear_12 bytes map segments is clear found =
     next_clear 11 bytes map clear (λ k j cause. none_failing (is_out_of_memory map) bytes (sym (ap (first_failing (is_out_of_memory map)) is) ∙ found) k cause)
 
--- the three tests of each segment
-pub clear_to_12 : (bytes : List ℕ) (map : MemoryMap) (segments : List Numbered) → segments ≡ numbered_segments bytes → IsClear 9 bytes map
-    → first_failing (is_out_of_file (length bytes)) segments ≡ None → first_failing is_above_memory_size segments ≡ None → first_failing (is_out_of_memory map) segments ≡ None → IsClear 12 bytes map
-clear_to_12 bytes map segments is clear in_file in_size in_memory =
-    clear_12 bytes map segments is (clear_11 bytes map segments is (clear_10 bytes map segments is clear in_file) in_size) in_memory
-
 -- ---- overlaps
 
 pub clash_numbers : (a b : Numbered) → clashes a b ≡ true → a.number ≢ b.number

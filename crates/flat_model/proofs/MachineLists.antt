@@ -90,16 +90,6 @@ held_sized t m s held = record {
 
 -- ---- after a step
 
-pub sized_after : (image : ImageView) (t : Topology) (h : ℕ) (r : StepRecord) (old new : MachineView)
-    → IsSized t old → IsCarriedOut image t h r old new → IsSized t new
-sized_after image t h r old new sized carried = record {
-  harts_count = (let now : new.harts ≡ slice_set old.harts h carried.hart.after = carried.hart.now in
-      let was : length old.harts ≡ hart_count t = sized.harts_count in rw now (grind (arith, common_steps, was)));
-  reservations_count = carried.reservations.count ∙ sized.reservations_count;
-  memory_whole = ap (λ n. 4 * n) carried.memory.count ∙ sized.memory_whole;
-  locks_whole = carried.locks.count ∙ sized.locks_whole;
-}
-
 pub held_after : (image : ImageView) (t : Topology) (h : ℕ) (r : StepRecord) (old new : MachineView) (s : FlatState)
     → h ≡ (hart_of r).0 → h < hart_count t → IsHeld t old s → (carried : IsCarriedOut image t h r old new)
     → IsHeld t new (state_after s r carried.hart.after)
