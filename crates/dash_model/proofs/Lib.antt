@@ -20,3 +20,5 @@ pub mod Lanes
 pub mod Effects
 pub mod Changes
 pub mod Example
+pub mod Merge
+pub mod Local

@@ -10,9 +10,10 @@ use Rattle.dash_base.specs.declared.id.ClusterId.{ClusterId}
 use Rattle.dash_model.specs.Maps.{most}
 use Rattle.dash_model.specs.Config.{Config, lines}
 use Rattle.dash_model.specs.Net.{Packet, packet, lane, head, tail, first, rest, send}
+use Rattle.dash_model.specs.Part.{Part, opening_part}
 use Rattle.dash_model.specs.Ranges.{applies}
-use Rattle.dash_model.specs.Machine.{Machine, Step, taken, less, sends, puts, CanHappen, after, IsRun, Reaches}
-use Rattle.dash_model.specs.LocalRun.{events_of}
+use Rattle.dash_model.specs.Machine.{Machine, Step, Steps, event_of, part_after, taken, less, sends, puts, CanHappen, after, IsRun, Reaches}
+use Rattle.dash_model.specs.LocalRun.{events_of, IsLocalRun, part_at, sent_in, takes, received_in, LanesMeet, Rose, IsMergeOf, IsMergedRun}
 use Rattle.dash_model.specs.OnLine.{is_of}
 
 -- two steps of one event make one machine of a machine, and two runs of one log reach one state
@@ -60,3 +61,19 @@ StampsRise = (w : Config) (log : List Event) (c : ℕ) → IsRun w log → Stamp
 -- a case applies wherever a message of a line of memory can be taken
 abbrev pub CasesApply : Type 0
 CasesApply = (w : Config) (log : List Event) (m : Machine) (g : Step) (f : ClusterId) (x : Msg) (l : ℕ) → l < lines w → is_of l x ≡ true → Reaches w log m → CanHappen w m g → g.event.kind ≡ Take f x → applies w g.event.cluster.0 x (m.parts g.event.cluster.0) ≡ true
+
+-- one step more at the end of a local run
+pub record Grows (w : Config) (c : ℕ) (p : Part) (gs : List Step) (g : Step) : Type 0 where
+  pub run : IsLocalRun w c p (gs ++ g ∷ [])
+  pub part : part_at w c p (gs ++ g ∷ []) ≡ part_after w c g (part_at w c p gs)
+  pub sent : sent_in w c p (gs ++ g ∷ []) ≡ sent_in w c p gs ++ sends w c g (part_at w c p gs)
+  pub received : received_in c (gs ++ g ∷ []) ≡ received_in c gs ++ takes c g
+
+abbrev pub LocalRunsGrow : Type 0
+LocalRunsGrow = (w : Config) (c : ℕ) (p : Part) (gs : List Step) (g : Step) → IsLocalRun w c p gs → Steps w c g (part_at w c p gs) → Grows w c p gs g
+
+-- the merge of local runs whose lanes are met, and whose stamps stay below the greatest, is a run
+abbrev pub MergesAreRuns : Type 0
+MergesAreRuns = (w : Config) (runs : ℕ → List Step) (es : List Event)
+    → ((c : ℕ) → IsLocalRun w c (opening_part w) (runs c)) → (l : LanesMeet w runs) → ((c : ℕ) → Rose (runs c))
+    → IsMergeOf w.top.clusters (λ c. map event_of (runs c)) es → IsMergedRun w runs l.left es

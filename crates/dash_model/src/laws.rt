@@ -1,7 +1,7 @@
 //! Laws of the definitions. The functions do nothing: their contracts are the laws.
 ghost use Rattle.dash_model.specs.Example.{ExampleRuns};
 ghost use Rattle.dash_model.specs.LineFacts.{RunsKeepLines};
-ghost use Rattle.dash_model.specs.MachineLaws.{EventsFixEffects, LanesAreQueues, StepsChangeOnePart, StampsRise, CasesApply};
+ghost use Rattle.dash_model.specs.MachineLaws.{EventsFixEffects, LanesAreQueues, StepsChangeOnePart, StampsRise, CasesApply, LocalRunsGrow, MergesAreRuns};
 
 /// Every run keeps the facts of each line of memory: one token, which is current; an entry that knows
 /// where it is; one answer to each request; exact counts of acknowledgements; an invalidation on its
@@ -41,4 +41,16 @@ pub fn stamps_rise()
 /// a lock word and is granted it.
 pub fn a_run_of_nine_events()
     ensures { ExampleRuns }
+{}
+
+/// A local run goes on with any step that its part allows, and adds what that step sends and takes.
+pub fn local_runs_grow()
+    ensures { LocalRunsGrow }
+{}
+
+/// Where clusters run by themselves, each takes from its lanes what the others sent, and stamps stay
+/// below the greatest one, the merge of their logs is a run. It leaves each cluster's part as its own
+/// run did, and each lane with what was not taken.
+pub fn merges_are_runs()
+    ensures { MergesAreRuns }
 {}
