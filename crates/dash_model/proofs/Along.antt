@@ -36,7 +36,8 @@ pub all_other : (k l : ℕ) (ss : List Sent) → AllAre k true ss → l ≢ k �
 all_other k l [] h n = tt
 all_other k l (s ∷ ss) h n = (other_line k l s.msg h.0 n, all_other k l ss h.1 n)
 
-on_more : (k : ℕ) (p : Packet) (ps qs : List Packet) (i : Bool) → on k (ps ++ qs) ≡ on k ps ++ on k qs → cond i (p ∷ on k (ps ++ qs)) (on k (ps ++ qs)) ≡ cond i (p ∷ on k ps) (on k ps) ++ on k qs
+on_more : (k : ℕ) (p : Packet) (ps qs : List Packet) (i : Bool) → on k (ps ++ qs) ≡ on k ps ++ on k qs
+    → cond i (p ∷ on k (ps ++ qs)) (on k (ps ++ qs)) ≡ cond i (p ∷ on k ps) (on k ps) ++ on k qs
 on_more k p ps qs true e = ap (λ xs. p ∷ xs) e
 on_more k p ps qs false e = e
 
@@ -53,7 +54,8 @@ on-none k t a (s ∷ ss) h = ap (λ b. cond b (packet t a s ∷ on k (map (packe
 on-all : (k t a : ℕ) (ss : List Sent) → AllAre k true ss → on k (map (packet t a) ss) ≡ map (packet t a) ss
 unfolding on
 on-all k t a [] h = refl
-on-all k t a (s ∷ ss) h = ap (λ b. cond b (packet t a s ∷ on k (map (packet t a) ss)) (on k (map (packet t a) ss))) h.0 ∙ ap (λ xs. packet t a s ∷ xs) (on-all k t a ss h.1)
+on-all k t a (s ∷ ss) h =
+    ap (λ b. cond b (packet t a s ∷ on k (map (packet t a) ss)) (on k (map (packet t a) ss))) h.0 ∙ ap (λ xs. packet t a s ∷ xs) (on-all k t a ss h.1)
 
 nothing_more : (xs : List Packet) → xs ++ [] ≡ xs
 nothing_more [] = refl
@@ -68,38 +70,49 @@ unfolding send
 on-send-all k t a net ss h = on-append k net (map (packet t a) ss) ∙ ap (λ xs. on k net ++ xs) (on-all k t a ss h)
 
 -- the head of a lane is the head among the messages of its line
-head_by : (k a b : ℕ) (c : Class) (q p : Packet) (ps : List Packet) (i j : Bool) → in_lane a b c p ≡ i → is_of k p.msg ≡ j → is_of k q.msg ≡ true → cond i (Some p) (head a b c ps) ≡ Some q → (head a b c ps ≡ Some q → head a b c (on k ps) ≡ Some q) → head a b c (cond j (p ∷ on k ps) (on k ps)) ≡ Some q
+head_by : (k a b : ℕ) (c : Class) (q p : Packet) (ps : List Packet) (i j : Bool) → in_lane a b c p ≡ i → is_of k p.msg ≡ j → is_of k q.msg ≡ true
+    → cond i (Some p) (head a b c ps) ≡ Some q → (head a b c ps ≡ Some q → head a b c (on k ps) ≡ Some q)
+    → head a b c (cond j (p ∷ on k ps) (on k ps)) ≡ Some q
 unfolding head
 head_by k a b c q p ps true true e f h g ih = ap (λ x. cond x (Some p) (head a b c (on k ps))) e ∙ g
 head_by k a b c q p ps true false e f h g ih = let r : p ≡ q = cc in absurd (cc (ap (λ (x : Packet). is_of k x.msg) r))
 head_by k a b c q p ps false true e f h g ih = ap (λ x. cond x (Some p) (head a b c (on k ps))) e ∙ ih g
 head_by k a b c q p ps false false e f h g ih = ih g
 
-pub on-head : (k a b : ℕ) (c : Class) (q : Packet) (net : List Packet) → is_of k q.msg ≡ true → head a b c net ≡ Some q → head a b c (on k net) ≡ Some q
+pub on-head : (k a b : ℕ) (c : Class) (q : Packet) (net : List Packet) → is_of k q.msg ≡ true → head a b c net ≡ Some q
+    → head a b c (on k net) ≡ Some q
 unfolding head on
 on-head k a b c q [] h e = absurd (cc)
 on-head k a b c q (p ∷ ps) h e = head_by k a b c q p ps (in_lane a b c p) (is_of k p.msg) refl refl h e (on-head k a b c q ps h)
 
-tail_by : (k a b : ℕ) (c : Class) (q p : Packet) (ps : List Packet) (i j : Bool) → in_lane a b c p ≡ i → is_of k p.msg ≡ j → is_of k q.msg ≡ true → cond i (Some p) (head a b c ps) ≡ Some q → (head a b c ps ≡ Some q → on k (tail a b c ps) ≡ tail a b c (on k ps)) → on k (cond i ps (p ∷ tail a b c ps)) ≡ tail a b c (cond j (p ∷ on k ps) (on k ps))
+tail_by : (k a b : ℕ) (c : Class) (q p : Packet) (ps : List Packet) (i j : Bool) → in_lane a b c p ≡ i → is_of k p.msg ≡ j → is_of k q.msg ≡ true
+    → cond i (Some p) (head a b c ps) ≡ Some q → (head a b c ps ≡ Some q → on k (tail a b c ps) ≡ tail a b c (on k ps))
+    → on k (cond i ps (p ∷ tail a b c ps)) ≡ tail a b c (cond j (p ∷ on k ps) (on k ps))
 unfolding tail on
 tail_by k a b c q p ps true true e f h g ih = sym (ap (λ x. cond x (on k ps) (p ∷ tail a b c (on k ps))) e)
 tail_by k a b c q p ps true false e f h g ih = let r : p ≡ q = cc in absurd (cc (ap (λ (x : Packet). is_of k x.msg) r))
-tail_by k a b c q p ps false true e f h g ih = ap (λ x. cond x (p ∷ on k (tail a b c ps)) (on k (tail a b c ps))) f ∙ ap (λ xs. p ∷ xs) (ih g) ∙ sym (ap (λ x. cond x (on k ps) (p ∷ tail a b c (on k ps))) e)
+tail_by k a b c q p ps false true e f h g ih =
+    ap (λ x. cond x (p ∷ on k (tail a b c ps)) (on k (tail a b c ps))) f ∙ ap (λ xs. p ∷ xs) (ih g)
+    ∙ sym (ap (λ x. cond x (on k ps) (p ∷ tail a b c (on k ps))) e)
 tail_by k a b c q p ps false false e f h g ih = ap (λ x. cond x (p ∷ on k (tail a b c ps)) (on k (tail a b c ps))) f ∙ ih g
 
-pub on-tail : (k a b : ℕ) (c : Class) (q : Packet) (net : List Packet) → is_of k q.msg ≡ true → head a b c net ≡ Some q → on k (tail a b c net) ≡ tail a b c (on k net)
+pub on-tail : (k a b : ℕ) (c : Class) (q : Packet) (net : List Packet) → is_of k q.msg ≡ true → head a b c net ≡ Some q
+    → on k (tail a b c net) ≡ tail a b c (on k net)
 unfolding head tail on
 on-tail k a b c q [] h e = absurd (cc)
 on-tail k a b c q (p ∷ ps) h e = tail_by k a b c q p ps (in_lane a b c p) (is_of k p.msg) refl refl h e (on-tail k a b c q ps h)
 
 -- a message of another line leaves those of this one
-off_by : (k a b : ℕ) (c : Class) (q p : Packet) (ps : List Packet) (i j : Bool) → is_of k p.msg ≡ j → is_of k q.msg ≡ false → cond i (Some p) (head a b c ps) ≡ Some q → (head a b c ps ≡ Some q → on k (tail a b c ps) ≡ on k ps) → on k (cond i ps (p ∷ tail a b c ps)) ≡ cond j (p ∷ on k ps) (on k ps)
+off_by : (k a b : ℕ) (c : Class) (q p : Packet) (ps : List Packet) (i j : Bool) → is_of k p.msg ≡ j → is_of k q.msg ≡ false
+    → cond i (Some p) (head a b c ps) ≡ Some q → (head a b c ps ≡ Some q → on k (tail a b c ps) ≡ on k ps)
+    → on k (cond i ps (p ∷ tail a b c ps)) ≡ cond j (p ∷ on k ps) (on k ps)
 unfolding on
 off_by k a b c q p ps true true f h g ih = let r : p ≡ q = cc in absurd (cc (ap (λ (x : Packet). is_of k x.msg) r))
 off_by k a b c q p ps true false f h g ih = refl
 off_by k a b c q p ps false j f h g ih = ap (λ x. cond x (p ∷ on k (tail a b c ps)) (on k (tail a b c ps))) f ∙ ap (λ xs. cond j (p ∷ xs) xs) (ih g)
 
-pub on-tail-off : (k a b : ℕ) (c : Class) (q : Packet) (net : List Packet) → is_of k q.msg ≡ false → head a b c net ≡ Some q → on k (tail a b c net) ≡ on k net
+pub on-tail-off : (k a b : ℕ) (c : Class) (q : Packet) (net : List Packet) → is_of k q.msg ≡ false → head a b c net ≡ Some q
+    → on k (tail a b c net) ≡ on k net
 unfolding head tail on
 on-tail-off k a b c q [] h e = absurd (cc)
 on-tail-off k a b c q (p ∷ ps) h e = off_by k a b c q p ps (in_lane a b c p) (is_of k p.msg) refl h e (on-tail-off k a b c q ps h)
@@ -124,7 +137,8 @@ is_same : (x c : ℕ) → (x == c) ≡ true → x ≡ c
 is_same x c e = grind (arith, nat_tests)
 
 -- nothing of the line changed
-pub along_still : (w : Config) (m : Machine) (l c : ℕ) (q : Part) (net : List Packet) (console : List ℕ) → q.cells l ≡ (m.parts c).cells l → q.homes l ≡ (m.parts c).homes l → on l net ≡ on l m.net → along w l (changed m c q net console) ≡ along w l m
+pub along_still : (w : Config) (m : Machine) (l c : ℕ) (q : Part) (net : List Packet) (console : List ℕ) → q.cells l ≡ (m.parts c).cells l
+    → q.homes l ≡ (m.parts c).homes l → on l net ≡ on l m.net → along w l (changed m c q net console) ≡ along w l m
 along_still w m l c q net console e f g = λ i. record {
   cells = λ x. cell_still l q (m.parts x) q (x == c) (λ t. e ∙ ap (λ y. (m.parts y).cells l) (sym (is_same x c t))) i;
   home = home_still l q (m.parts (home_of w l)) (home_of w l == c) (λ t. f ∙ ap (λ y. (m.parts y).homes l) (sym (is_same (home_of w l) c t))) i;
@@ -144,7 +158,10 @@ test_true : (c : ℕ) → (c == c) ≡ true
 test_true c = grind (arith, nat_tests)
 
 -- the line at this cluster, and maybe its home, changed by a row
-pub along_row : (w : Config) (m : Machine) (l c t : ℕ) (D : Cell → Home → Did) (q : Part) (rest net : List Packet) (console : List ℕ) → IsLocal c (home_of w l) D → q.cells l ≡ (D ((m.parts c).cells l) ((m.parts c).homes l)).cell → q.homes l ≡ (D ((m.parts c).cells l) ((m.parts c).homes l)).home → on l net ≡ send rest t c (D ((m.parts c).cells l) ((m.parts c).homes l)).sent → along w l (changed m c q net console) ≡ apply t c (D ((m.parts c).cells l) ((m.parts (home_of w l)).homes l)) rest (along w l m)
+pub along_row : (w : Config) (m : Machine) (l c t : ℕ) (D : Cell → Home → Did) (q : Part) (rest net : List Packet) (console : List ℕ)
+    → IsLocal c (home_of w l) D → q.cells l ≡ (D ((m.parts c).cells l) ((m.parts c).homes l)).cell
+    → q.homes l ≡ (D ((m.parts c).cells l) ((m.parts c).homes l)).home → on l net ≡ send rest t c (D ((m.parts c).cells l) ((m.parts c).homes l)).sent
+    → along w l (changed m c q net console) ≡ apply t c (D ((m.parts c).cells l) ((m.parts (home_of w l)).homes l)) rest (along w l m)
 along_row w m l c t D q rest net console local e f g =
     elim (same_or_not c (home_of w l)) [
       | inl s ↦ (λ i. record {

@@ -30,7 +30,8 @@ strict_more : (lo hi n : ℕ) (cs : List ℕ) → lo ≤ hi → Strict hi n cs �
 strict_more lo hi n [] l s = omega arith
 strict_more lo hi n (c ∷ cs) l s = (let a = s.0 in omega arith, s.1, s.2)
 
-strict_with_cases : (f x lo n : ℕ) (cs : List ℕ) (i j : Bool) → (x == f) ≡ i → nat_lt f x ≡ j → lo ≤ f → f < n → Strict lo n (x ∷ cs) → (suc x ≤ f → Strict (suc x) n (with_member f cs)) → Strict lo n (cond i (x ∷ cs) (cond j (f ∷ x ∷ cs) (x ∷ with_member f cs)))
+strict_with_cases : (f x lo n : ℕ) (cs : List ℕ) (i j : Bool) → (x == f) ≡ i → nat_lt f x ≡ j → lo ≤ f → f < n → Strict lo n (x ∷ cs)
+    → (suc x ≤ f → Strict (suc x) n (with_member f cs)) → Strict lo n (cond i (x ∷ cs) (cond j (f ∷ x ∷ cs) (x ∷ with_member f cs)))
 strict_with_cases f x lo n cs true j e g l b s ih = s
 strict_with_cases f x lo n cs false true e g l b s ih = (l, b, (grind (arith, nat_tests), s.1, s.2))
 strict_with_cases f x lo n cs false false e g l b s ih = (s.0, s.1, ih (grind (arith, nat_tests)))
@@ -90,7 +91,8 @@ pub record DidBounded (n : ℕ) (d : Did) : Type 0 where
   pub acks : AcksBounded n d.cell.acks
 
 -- lists of messages
-head_cases : (n a b : ℕ) (k : Class) (q p : Packet) (ps : List Packet) (i : Bool) → cond i (Some p) (head a b k ps) ≡ Some q → (p.src < n) × Named n p.msg → (head a b k ps ≡ Some q → (q.src < n) × Named n q.msg) → (q.src < n) × Named n q.msg
+head_cases : (n a b : ℕ) (k : Class) (q p : Packet) (ps : List Packet) (i : Bool) → cond i (Some p) (head a b k ps) ≡ Some q
+    → (p.src < n) × Named n p.msg → (head a b k ps ≡ Some q → (q.src < n) × Named n q.msg) → (q.src < n) × Named n q.msg
 head_cases n a b k q p ps true e h ih = let r : p ≡ q = cc in subst (λ p. (p.src < n) × Named n p.msg) r h
 head_cases n a b k q p ps false e h ih = ih e
 
@@ -126,12 +128,14 @@ sent-invals n l r [] m c b h = (h, tt)
 sent-invals n l r (x ∷ xs) m c b h = (b, sent-invals n l r xs m c b h)
 
 -- rows
-read_bound : (n : ℕ) (l : LineId) (f : ℕ) (e : Entry) (a : Cell) (b : Home) → f < n → EntryBounded n e → EntryBounded n b.entry → AcksBounded n a.acks → DidBounded n (read_row l f e a b)
+read_bound : (n : ℕ) (l : LineId) (f : ℕ) (e : Entry) (a : Cell) (b : Home) → f < n → EntryBounded n e → EntryBounded n b.entry → AcksBounded n a.acks
+    → DidBounded n (read_row l f e a b)
 read_bound n l f Uncached a b h e g k = record { sent = (tt, tt); entry = (omega arith, h, h); acks = k }
 read_bound n l f (SharedBy cs) a b h e g k = record { sent = (tt, tt); entry = strict-with f 0 n cs (omega arith) h e; acks = k }
 read_bound n l f (Dirty o) a b h e g k = record { sent = (h, tt); entry = g; acks = k }
 
-own_bound : (n : ℕ) (l : LineId) (f : ℕ) (e : Entry) (a : Cell) (b : Home) → f < n → EntryBounded n e → EntryBounded n b.entry → AcksBounded n a.acks → DidBounded n (own_row l f e a b)
+own_bound : (n : ℕ) (l : LineId) (f : ℕ) (e : Entry) (a : Cell) (b : Home) → f < n → EntryBounded n e → EntryBounded n b.entry → AcksBounded n a.acks
+    → DidBounded n (own_row l f e a b)
 own_bound n l f Uncached a b h e g k = record { sent = (omega arith, tt); entry = tt; acks = k }
 own_bound n l f (SharedBy cs) a b h e g k =
     let all = strict-length 0 n cs e in
@@ -140,23 +144,28 @@ own_bound n l f (SharedBy cs) a b h e g k =
     record { sent = sent-invals n l f (without f cs) (DataEx l b.mem (length (without f cs))) f h fits; entry = tt; acks = k }
 own_bound n l f (Dirty o) a b h e g k = record { sent = (h, tt); entry = g; acks = k }
 
-give_read_bound : (n : ℕ) (l : LineId) (h r : ℕ) (c : Copy) (k : Acks) (a : Cell) (b : Home) → r < n → EntryBounded n b.entry → AcksBounded n a.acks → DidBounded n (give_read l h r c k a b)
+give_read_bound : (n : ℕ) (l : LineId) (h r : ℕ) (c : Copy) (k : Acks) (a : Cell) (b : Home) → r < n → EntryBounded n b.entry → AcksBounded n a.acks
+    → DidBounded n (give_read l h r c k a b)
 give_read_bound n l h r (Held hs (Some o) d) NoAcks a b f e g = record { sent = (tt, (f, tt)); entry = e; acks = g }
 give_read_bound n l h r _ _ a b f e g = record { sent = (tt, tt); entry = e; acks = g }
 
-give_own_bound : (n : ℕ) (l : LineId) (h r : ℕ) (c : Copy) (k : Acks) (a : Cell) (b : Home) → r < n → EntryBounded n b.entry → AcksBounded n a.acks → DidBounded n (give_own l h r c k a b)
+give_own_bound : (n : ℕ) (l : LineId) (h r : ℕ) (c : Copy) (k : Acks) (a : Cell) (b : Home) → r < n → EntryBounded n b.entry → AcksBounded n a.acks
+    → DidBounded n (give_own l h r c k a b)
 give_own_bound n l h r (Held hs (Some o) d) NoAcks a b f e g = record { sent = (omega arith, (f, tt)); entry = e; acks = g }
 give_own_bound n l h r _ _ a b f e g = record { sent = (tt, tt); entry = e; acks = g }
 
-write_back_bound : (n : ℕ) (d : Line) (i : Bool) (a : Cell) (b : Home) → EntryBounded n b.entry → AcksBounded n a.acks → DidBounded n (write_back_row d i a b)
+write_back_bound : (n : ℕ) (d : Line) (i : Bool) (a : Cell) (b : Home) → EntryBounded n b.entry → AcksBounded n a.acks
+    → DidBounded n (write_back_row d i a b)
 write_back_bound n d true a b e g = record { sent = tt; entry = tt; acks = g }
 write_back_bound n d false a b e g = record { sent = tt; entry = e; acks = g }
 
-sharing_back_bound : (n f : ℕ) (d : Line) (r : ℕ) (i : Bool) (a : Cell) (b : Home) → f < n → r < n → EntryBounded n b.entry → AcksBounded n a.acks → DidBounded n (sharing_back_row f d r i a b)
+sharing_back_bound : (n f : ℕ) (d : Line) (r : ℕ) (i : Bool) (a : Cell) (b : Home) → f < n → r < n → EntryBounded n b.entry → AcksBounded n a.acks
+    → DidBounded n (sharing_back_row f d r i a b)
 sharing_back_bound n f d r true a b h k e g = record { sent = tt; entry = strict-with f 0 n (r ∷ []) (omega arith) h (omega arith, k, k); acks = g }
 sharing_back_bound n f d r false a b h k e g = record { sent = tt; entry = e; acks = g }
 
-transfer_bound : (n : ℕ) (l : LineId) (r : ℕ) (i : Bool) (a : Cell) (b : Home) → EntryBounded n b.entry → AcksBounded n a.acks → DidBounded n (transfer_row l r i a b)
+transfer_bound : (n : ℕ) (l : LineId) (r : ℕ) (i : Bool) (a : Cell) (b : Home) → EntryBounded n b.entry → AcksBounded n a.acks
+    → DidBounded n (transfer_row l r i a b)
 transfer_bound n l r true a b e g = record { sent = (tt, tt); entry = tt; acks = g }
 transfer_bound n l r false a b e g = record { sent = tt; entry = e; acks = g }
 
@@ -196,9 +205,12 @@ owe_bound n t NoAcks h = h
 owe_bound n t (Counting g o) h = h
 owe_bound n t (Expects m g o) h = h
 
-take_bound : (n k h c f : ℕ) (m : Msg) (a : Cell) (b : Home) → f < n → Named n m → EntryBounded n b.entry → AcksBounded n a.acks → DidBounded n (take_row k h c f m a b)
-take_bound n k h c f (Read l) a b s i e g = cond_bound n (c == h) (read_row l f b.entry a b) (still a b) (read_bound n l f b.entry a b s e e g) (record { sent = tt; entry = e; acks = g })
-take_bound n k h c f (ReadEx l) a b s i e g = cond_bound n (c == h) (own_row l f b.entry a b) (still a b) (own_bound n l f b.entry a b s e e g) (record { sent = tt; entry = e; acks = g })
+take_bound : (n k h c f : ℕ) (m : Msg) (a : Cell) (b : Home) → f < n → Named n m → EntryBounded n b.entry → AcksBounded n a.acks
+    → DidBounded n (take_row k h c f m a b)
+take_bound n k h c f (Read l) a b s i e g =
+    cond_bound n (c == h) (read_row l f b.entry a b) (still a b) (read_bound n l f b.entry a b s e e g) (record { sent = tt; entry = e; acks = g })
+take_bound n k h c f (ReadEx l) a b s i e g =
+    cond_bound n (c == h) (own_row l f b.entry a b) (still a b) (own_bound n l f b.entry a b s e e g) (record { sent = tt; entry = e; acks = g })
 take_bound n k h c f (FwdRead l r) a b s i e g = give_read_bound n l h r.0 a.copy a.acks a b i e g
 take_bound n k h c f (FwdReadEx l r) a b s i e g = give_own_bound n l h r.0 a.copy a.acks a b i e g
 take_bound n k h c f (Inval l r) a b s i e g = record { sent = (tt, tt); entry = e; acks = g }
@@ -212,7 +224,8 @@ take_bound n k h c f (TransferAck l) a b s i e g = record { sent = tt; entry = e
 take_bound n k h c f (Nak l) a b s i e g = record { sent = tt; entry = e; acks = nak_bound n k a.slot a.acks g }
 take_bound n k h c f _ a b s i e g = record { sent = tt; entry = e; acks = g }
 
-again_bound : (n : ℕ) (l : LineId) (h : ℕ) (s : Slot) (a : Cell) (b : Home) → EntryBounded n b.entry → AcksBounded n a.acks → DidBounded n (again_row l h s a b)
+again_bound : (n : ℕ) (l : LineId) (h : ℕ) (s : Slot) (a : Cell) (b : Home) → EntryBounded n b.entry → AcksBounded n a.acks
+    → DidBounded n (again_row l h s a b)
 again_bound n l h (Reads i t Refused) a b e g = record { sent = (tt, tt); entry = e; acks = g }
 again_bound n l h (Owns i t Refused) a b e g = record { sent = (tt, tt); entry = e; acks = g }
 again_bound n l h _ a b e g = record { sent = tt; entry = e; acks = g }
@@ -222,11 +235,13 @@ install_bound n (Reads i t (Came d)) a b e g = record { sent = tt; entry = e; ac
 install_bound n (Owns i t (Came d)) a b e g = record { sent = tt; entry = e; acks = g }
 install_bound n _ a b e g = record { sent = tt; entry = e; acks = g }
 
-evict_bound : (n : ℕ) (l : LineId) (h : ℕ) (c : Copy) (a : Cell) (b : Home) → EntryBounded n b.entry → AcksBounded n a.acks → DidBounded n (evict_row l h c a b)
+evict_bound : (n : ℕ) (l : LineId) (h : ℕ) (c : Copy) (a : Cell) (b : Home) → EntryBounded n b.entry → AcksBounded n a.acks
+    → DidBounded n (evict_row l h c a b)
 evict_bound n l h (Held hs (Some o) d) a b e g = record { sent = (tt, tt); entry = e; acks = g }
 evict_bound n l h _ a b e g = record { sent = tt; entry = e; acks = g }
 
-act_bound : (n : ℕ) (l : LineId) (h : ℕ) (m : Act) (a : Cell) (b : Home) → EntryBounded n b.entry → AcksBounded n a.acks → DidBounded n (act_row l h m a b)
+act_bound : (n : ℕ) (l : LineId) (h : ℕ) (m : Act) (a : Cell) (b : Home) → EntryBounded n b.entry → AcksBounded n a.acks
+    → DidBounded n (act_row l h m a b)
 act_bound n l h (AskRead i t) a b e g = record { sent = (tt, tt); entry = e; acks = g }
 act_bound n l h (AskOwn i t) a b e g = record { sent = (tt, tt); entry = e; acks = tt }
 act_bound n l h Again a b e g = again_bound n l h a.slot a b e g
@@ -242,30 +257,36 @@ acks_if : (n : ℕ) (a b : Cell) (i : Bool) → AcksBounded n a.acks → AcksBou
 acks_if n a b true h k = h
 acks_if n a b false h k = k
 
-apply_bound : (n i c : ℕ) (d : Did) (net : List Packet) (s : State) → c < n → DidBounded n d → AllNamed n net → Bounded n s → Bounded n (apply i c d net s)
+apply_bound : (n i c : ℕ) (d : Did) (net : List Packet) (s : State) → c < n → DidBounded n d → AllNamed n net → Bounded n s
+    → Bounded n (apply i c d net s)
 apply_bound n i c d net s l h k b = record {
   net = named-send n i c net d.sent l k h.sent;
   entry = h.entry;
   acks = λ x. acks_if n d.cell (s.cells x) (x == c) h.acks (b.acks x);
 }
 
-pub take_bounded : (n : ℕ) (w : Where) (s : State) (i c f u : ℕ) (m : Msg) → c < n → head f c (class_of m) s.net ≡ Some (parcel f c m u) → Bounded n s → Bounded n (after w s (Takes i c f m))
+pub take_bounded : (n : ℕ) (w : Where) (s : State) (i c f u : ℕ) (m : Msg) → c < n → head f c (class_of m) s.net ≡ Some (parcel f c m u) → Bounded n s
+    → Bounded n (after w s (Takes i c f m))
 take_bounded n w s i c f u m l first b =
     let q = named-head n f c (class_of m) (parcel f c m u) s.net b.net first in
     apply_bound n i c (take_row w.k w.home c f m (s.cells c) s.home) (tail f c (class_of m) s.net) s l (take_bound n w.k w.home c f m (s.cells c) s.home q.0 q.1 b.entry (b.acks c)) (named-tail n f c (class_of m) s.net b.net) b
 
 pub act_bounded : (n : ℕ) (w : Where) (s : State) (i c : ℕ) (a : Act) → c < n → Bounded n s → Bounded n (after w s (Acts i c a))
-act_bounded n w s i c a l b = apply_bound n i c (act_row w.line w.home a (s.cells c) s.home) s.net s l (act_bound n w.line w.home a (s.cells c) s.home b.entry (b.acks c)) b.net b
+act_bounded n w s i c a l b =
+    apply_bound n i c (act_row w.line w.home a (s.cells c) s.home) s.net s l (act_bound n w.line w.home a (s.cells c) s.home b.entry (b.acks c)) b.net b
 
 -- what is announced to a cluster, by one DataEx at most
-one_count : (n x a b : ℕ) (m : Msg) → Named n m → ((brings_msg x a b m ≡ 0) × (counts_to_msg x a b m ≡ 0)) ⊎ ((brings_msg x a b m ≡ 1) × (counts_to_msg x a b m ≤ n))
+one_count : (n x a b : ℕ) (m : Msg) → Named n m
+    → ((brings_msg x a b m ≡ 0) × (counts_to_msg x a b m ≡ 0)) ⊎ ((brings_msg x a b m ≡ 1) × (counts_to_msg x a b m ≤ n))
 one_count n x a b (DataEx l d m) h = grind (arith, nat_tests)
 one_count n x a b _ h = inl (refl, refl)
 
 none_counts : (x : ℕ) (net : List Packet) → weigh (brings x) net ≡ 0 → weigh (counts_to x) net ≡ 0
 none_counts x net e = weigh-only (brings x) (counts_to x) (brings_counts x) net e
 
-announced_by : (n x : ℕ) (p : Packet) (ps : List Packet) → ((brings x p ≡ 0) × (counts_to x p ≡ 0)) ⊎ ((brings x p ≡ 1) × (counts_to x p ≤ n)) → brings x p + weigh (brings x) ps ≤ 1 → (weigh (brings x) ps ≤ 1 → weigh (counts_to x) ps ≤ n) → (weigh (brings x) ps ≡ 0 → weigh (counts_to x) ps ≡ 0) → counts_to x p + weigh (counts_to x) ps ≤ n
+announced_by : (n x : ℕ) (p : Packet) (ps : List Packet) → ((brings x p ≡ 0) × (counts_to x p ≡ 0)) ⊎ ((brings x p ≡ 1) × (counts_to x p ≤ n))
+    → brings x p + weigh (brings x) ps ≤ 1 → (weigh (brings x) ps ≤ 1 → weigh (counts_to x) ps ≤ n)
+    → (weigh (brings x) ps ≡ 0 → weigh (counts_to x) ps ≡ 0) → counts_to x p + weigh (counts_to x) ps ≤ n
 announced_by n x p ps (inl e) l ih none = let a = e.0 in let b = e.1 in let c = ih (omega arith) in omega arith
 announced_by n x p ps (inr e) l ih none = let a = e.0 in let b = e.1 in let c = none (omega arith) in omega arith
 

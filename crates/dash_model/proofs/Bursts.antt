@@ -20,16 +20,19 @@ append_map : (t a : ℕ) (xs ys : List Sent) → map (packet t a) (xs ++ ys) ≡
 append_map t a [] ys = refl
 append_map t a (x ∷ xs) ys = ap (λ zs. packet t a x ∷ zs) (append_map t a xs ys)
 
-pub send-burst : (w : Packet → ℕ) (net : List Packet) (l : LineId) (t a r : ℕ) (cs : List ℕ) (m : Sent) → weigh w (send net t a (invals_to l r cs ++ (m ∷ []))) ≡ weigh w net + weigh w (burst l t a r cs) + w (packet t a m)
+pub send-burst : (w : Packet → ℕ) (net : List Packet) (l : LineId) (t a r : ℕ) (cs : List ℕ) (m : Sent)
+    → weigh w (send net t a (invals_to l r cs ++ (m ∷ []))) ≡ weigh w net + weigh w (burst l t a r cs) + w (packet t a m)
 unfolding send weigh burst
 send-burst w net l t a r cs m =
     let e = weigh-append w net (map (packet t a) (invals_to l r cs ++ (m ∷ []))) in
-    let f : weigh w (map (packet t a) (invals_to l r cs ++ (m ∷ []))) ≡ weigh w (map (packet t a) (invals_to l r cs) ++ (packet t a m ∷ [])) = ap (weigh w) (append_map t a (invals_to l r cs) (m ∷ [])) in
+    let f : weigh w (map (packet t a) (invals_to l r cs ++ (m ∷ []))) ≡ weigh w (map (packet t a) (invals_to l r cs) ++ (packet t a m ∷ [])) =
+    ap (weigh w) (append_map t a (invals_to l r cs) (m ∷ [])) in
     let g = weigh-append w (map (packet t a) (invals_to l r cs)) (packet t a m ∷ []) in
     omega arith
 
 -- a weight that no invalidation has
-free : (w : Packet → ℕ) (l : LineId) (t a r : ℕ) → ((c : ℕ) → w (packet t a (to c (Inval l (cluster_id r)))) ≡ 0) → (cs : List ℕ) → weigh w (burst l t a r cs) ≡ 0
+free : (w : Packet → ℕ) (l : LineId) (t a r : ℕ) → ((c : ℕ) → w (packet t a (to c (Inval l (cluster_id r)))) ≡ 0) → (cs : List ℕ)
+    → weigh w (burst l t a r cs) ≡ 0
 unfolding burst weigh invals_to
 free w l t a r f [] = refl
 free w l t a r f (c ∷ cs) =
@@ -83,7 +86,8 @@ invals-burst x l t a r (c ∷ cs) =
     let ih = invals-burst x l t a r cs in
     grind (arith, nat_tests)
 
-own_tail : (x : ℕ) (l : LineId) (t a r c : ℕ) (cs : List ℕ) (i : Bool) → (c == r) ≡ i → weigh (own_invals x) (burst l t a r cs) ≡ 0 → weigh (own_invals x) (burst l t a r (cond (not i) (c ∷ cs) cs)) ≡ 0
+own_tail : (x : ℕ) (l : LineId) (t a r c : ℕ) (cs : List ℕ) (i : Bool) → (c == r) ≡ i → weigh (own_invals x) (burst l t a r cs) ≡ 0
+    → weigh (own_invals x) (burst l t a r (cond (not i) (c ∷ cs) cs)) ≡ 0
 unfolding burst weigh invals_to
 own_tail x l t a r c cs true e ih = ih
 own_tail x l t a r c cs false e ih = grind (arith, nat_tests)
@@ -93,7 +97,9 @@ unfolding burst weigh invals_to without
 own_invals-burst x l t a r [] = refl
 own_invals-burst x l t a r (c ∷ cs) = own_tail x l t a r c (without r cs) (c == r) refl (own_invals-burst x l t a r cs)
 
-at_tail : (x : ℕ) (l : LineId) (t a r c : ℕ) (cs : List ℕ) (i j : Bool) → (c == r) ≡ i → (c == x) ≡ j → x ≢ r → j || member x cs ≡ true → (member x cs ≡ true → 1 ≤ weigh (invals_at x) (burst l t a r (without r cs))) → 1 ≤ weigh (invals_at x) (burst l t a r (cond (not i) (c ∷ without r cs) (without r cs)))
+at_tail : (x : ℕ) (l : LineId) (t a r c : ℕ) (cs : List ℕ) (i j : Bool) → (c == r) ≡ i → (c == x) ≡ j → x ≢ r → j || member x cs ≡ true
+    → (member x cs ≡ true → 1 ≤ weigh (invals_at x) (burst l t a r (without r cs)))
+    → 1 ≤ weigh (invals_at x) (burst l t a r (cond (not i) (c ∷ without r cs) (without r cs)))
 unfolding burst weigh invals_to
 at_tail x l t a r c cs true true e f n m ih = grind (arith, nat_tests)
 at_tail x l t a r c cs true false e f n m ih = ih m
@@ -101,7 +107,8 @@ at_tail x l t a r c cs false true e f n m ih = grind (arith, nat_tests)
 at_tail x l t a r c cs false false e f n m ih = let k = ih m in grind (arith, nat_tests)
 
 -- each sharer but r is sent one
-pub invals_at-burst : (x : ℕ) (l : LineId) (t a r : ℕ) (cs : List ℕ) → x ≢ r → member x cs ≡ true → 1 ≤ weigh (invals_at x) (burst l t a r (without r cs))
+pub invals_at-burst : (x : ℕ) (l : LineId) (t a r : ℕ) (cs : List ℕ) → x ≢ r → member x cs ≡ true
+    → 1 ≤ weigh (invals_at x) (burst l t a r (without r cs))
 unfolding burst weigh invals_to without member
 invals_at-burst x l t a r [] n m = absurd (cc)
 invals_at-burst x l t a r (c ∷ cs) n m = at_tail x l t a r c cs (c == r) (c == x) refl refl n m (λ k. invals_at-burst x l t a r cs n k)
@@ -117,4 +124,5 @@ old_datas-burst v x l t a r cs = free (old_datas v x) l t a r (λ c. refl) cs
 
 pub ruleset vbursts = (send-burst, old_brings-burst, old_backs-burst, old_datas-burst)
 
-pub ruleset bursts = (send-burst, reads-burst, datas-burst, wants-burst, brings-burst, naks-burst, gives_back-burst, leaves-burst, gains-burst, acks_to-burst, counts_to-burst, shares-burst, misrouted-burst, back_any-burst, invals-burst, own_invals-burst)
+pub ruleset bursts =
+    (send-burst, reads-burst, datas-burst, wants-burst, brings-burst, naks-burst, gives_back-burst, leaves-burst, gains-burst, acks_to-burst, counts_to-burst, shares-burst, misrouted-burst, back_any-burst, invals-burst, own_invals-burst)

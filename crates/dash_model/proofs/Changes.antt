@@ -38,9 +38,12 @@ off_source a b k c t (s ∷ ss) n =
     let e : in_lane a b k (packet t c s) ≡ false = grind (arith, nat_tests) in
     ap (λ z. cond z (packet t c s ∷ lane a b k (map (packet t c) ss)) (lane a b k (map (packet t c) ss))) e ∙ off_source a b k c t ss n
 
-takes_by : (w : Config) (m : Machine) (g : Step) (k : Kind) → g.event.kind ≡ k → AtHead (taken g.event.cluster.0 g.stamp k) m.net → (taken g.event.cluster.0 g.stamp g.event.kind ≡ []) ⊎ TakesHead w m g
-takes_by w m g (Take f x) e h = inr (record { parcel = record { src = f.0; dst = g.event.cluster.0; msg = x; stamp = g.stamp }; only = ap (taken g.event.cluster.0 g.stamp) e; to_it = refl; is_head = h })
-takes_by w m g (Free f a) e h = inr (record { parcel = record { src = f.0; dst = g.event.cluster.0; msg = Unlock a.hart a.number a.word; stamp = g.stamp }; only = ap (taken g.event.cluster.0 g.stamp) e; to_it = refl; is_head = h })
+takes_by : (w : Config) (m : Machine) (g : Step) (k : Kind) → g.event.kind ≡ k → AtHead (taken g.event.cluster.0 g.stamp k) m.net
+    → (taken g.event.cluster.0 g.stamp g.event.kind ≡ []) ⊎ TakesHead w m g
+takes_by w m g (Take f x) e h =
+    inr (record { parcel = record { src = f.0; dst = g.event.cluster.0; msg = x; stamp = g.stamp }; only = ap (taken g.event.cluster.0 g.stamp) e; to_it = refl; is_head = h })
+takes_by w m g (Free f a) e h =
+    inr (record { parcel = record { src = f.0; dst = g.event.cluster.0; msg = Unlock a.hart a.number a.word; stamp = g.stamp }; only = ap (taken g.event.cluster.0 g.stamp) e; to_it = refl; is_head = h })
 takes_by w m g _ e h = inl (ap (taken g.event.cluster.0 g.stamp) e)
 
 pub changes : (w : Config) (m : Machine) (g : Step) → CanHappen w m g → ChangesOnePart w m g
@@ -62,13 +65,18 @@ above_max last u m t l e = grind (arith, nat_tests)
 above : (last u t : ℕ) → t ≡ next_stamp last u → (last < t) ⊎ ((most ≤ last) × (last ≤ t))
 above last u t e = above_max last u (max last u) t (max_left last u) e
 
-stamps_own : (w : Config) (m : Machine) (g : Step) (gs : List Step) → AreSteps w m (g ∷ gs) → StampsFrom ((after w m g).parts g.event.cluster.0).last (events_of g.event.cluster.0 (map event_of gs)) → StampsFrom (m.parts g.event.cluster.0).last (cond (g.event.cluster.0 == g.event.cluster.0) (g.event ∷ events_of g.event.cluster.0 (map event_of gs)) (events_of g.event.cluster.0 (map event_of gs)))
+stamps_own : (w : Config) (m : Machine) (g : Step) (gs : List Step) → AreSteps w m (g ∷ gs)
+    → StampsFrom ((after w m g).parts g.event.cluster.0).last (events_of g.event.cluster.0 (map event_of gs))
+    → StampsFrom (m.parts g.event.cluster.0).last (cond (g.event.cluster.0 == g.event.cluster.0) (g.event ∷ events_of g.event.cluster.0 (map event_of gs)) (events_of g.event.cluster.0 (map event_of gs)))
 stamps_own w m g gs s ih =
     let e : (g.event.cluster.0 == g.event.cluster.0) ≡ true = grind (arith, nat_tests) in
-    let last : ((after w m g).parts g.event.cluster.0).last ≡ g.event.stamp = ap (λ q. q.last) (part_own m g.event.cluster.0 (part_after w g.event.cluster.0 g (m.parts g.event.cluster.0))) in
+    let last : ((after w m g).parts g.event.cluster.0).last ≡ g.event.stamp =
+    ap (λ q. q.last) (part_own m g.event.cluster.0 (part_after w g.event.cluster.0 g (m.parts g.event.cluster.0))) in
     subst (λ b. StampsFrom (m.parts g.event.cluster.0).last (cond b (g.event ∷ events_of g.event.cluster.0 (map event_of gs)) (events_of g.event.cluster.0 (map event_of gs)))) (sym e) (above (m.parts g.event.cluster.0).last _ g.event.stamp s.0.steps.stamp, subst (λ n. StampsFrom n (events_of g.event.cluster.0 (map event_of gs))) last ih)
 
-stamps_other : (w : Config) (c : ℕ) (m : Machine) (g : Step) (gs : List Step) → g.event.cluster.0 ≢ c → StampsFrom ((after w m g).parts c).last (events_of c (map event_of gs)) → StampsFrom (m.parts c).last (cond (g.event.cluster.0 == c) (g.event ∷ events_of c (map event_of gs)) (events_of c (map event_of gs)))
+stamps_other : (w : Config) (c : ℕ) (m : Machine) (g : Step) (gs : List Step) → g.event.cluster.0 ≢ c
+    → StampsFrom ((after w m g).parts c).last (events_of c (map event_of gs))
+    → StampsFrom (m.parts c).last (cond (g.event.cluster.0 == c) (g.event ∷ events_of c (map event_of gs)) (events_of c (map event_of gs)))
 stamps_other w c m g gs n ih =
     let e : (g.event.cluster.0 == c) ≡ false = grind (arith, nat_tests) in
     let same = part_other m g.event.cluster.0 c (part_after w g.event.cluster.0 g (m.parts g.event.cluster.0)) (λ z. n (sym z)) in
@@ -86,8 +94,10 @@ pub stamps_rise : (w : Config) (log : List Event) (c : ℕ) → IsRun w log → 
 stamps_rise w log c r = subst (λ es. StampsFrom 0 (events_of c es)) r.events (stamps_from w c (opening w) r.steps r.happen)
 
 -- cases apply
-pub cases_apply : (w : Config) (log : List Event) (m : Machine) (g : Step) (f : ClusterId) (x : Msg) (l : ℕ) → l < lines w → is_of l x ≡ true → Reaches w log m → CanHappen w m g → g.event.kind ≡ Take f x → applies w g.event.cluster.0 x (m.parts g.event.cluster.0) ≡ true
+pub cases_apply : (w : Config) (log : List Event) (m : Machine) (g : Step) (f : ClusterId) (x : Msg) (l : ℕ) → l < lines w → is_of l x ≡ true
+    → Reaches w log m → CanHappen w m g → g.event.kind ≡ Take f x → applies w g.event.cluster.0 x (m.parts g.event.cluster.0) ≡ true
 cases_apply w log m g f x l i o r h e =
     let k = each_reached w log m l i r in
-    let first : head f.0 g.event.cluster.0 (class_of x) m.net ≡ Some (record { src = f.0; dst = g.event.cluster.0; msg = x; stamp = g.stamp }) = subst (λ y. AtHead (taken g.event.cluster.0 g.stamp y) m.net) e h.head in
+    let first : head f.0 g.event.cluster.0 (class_of x) m.net ≡ Some (record { src = f.0; dst = g.event.cluster.0; msg = x; stamp = g.stamp }) =
+    subst (λ y. AtHead (taken g.event.cluster.0 g.stamp y) m.net) e h.head in
     case_applies w l _ g.event.cluster.0 f.0 g.stamp x (m.parts g.event.cluster.0) (along w l m) i o (on-head l f.0 g.event.cluster.0 (class_of x) (record { src = f.0; dst = g.event.cluster.0; msg = x; stamp = g.stamp }) m.net o first) refl k.invariant k.bounded

@@ -38,7 +38,8 @@ version_sum : (l v : ℕ) (log : List Event) → v ≤ most → version_from l v
 version_sum l v [] h = grind (arith, nat_tests)
 version_sum l v (e ∷ es) h =
     let ih = version_sum l (version_by l v e.kind) es (version_fits v (commits_line l e.kind) h) in
-    let count : length (commits_of (e ∷ es) (line_id l)) ≡ cond {A = ℕ} (commits_line l e.kind) 1 0 + length (commits_of es (line_id l)) = length_append (commit_in (line_id l) e.kind) (commits_of es (line_id l)) ∙ ap (λ n. n + length (commits_of es (line_id l))) (one_commit l e.kind) in
+    let count : length (commits_of (e ∷ es) (line_id l)) ≡ cond {A = ℕ} (commits_line l e.kind) 1 0 + length (commits_of es (line_id l)) = length_append (commit_in (line_id l) e.kind) (commits_of es (line_id l))
+    ∙ ap (λ n. n + length (commits_of es (line_id l))) (one_commit l e.kind) in
     ih ∙ sym (version_step (length (commits_of es (line_id l))) v (commits_line l e.kind) h) ∙ ap (λ n. min (v + n) most) (sym count)
 
 pub version-of : (l : ℕ) (log : List Event) → version_from l 0 log ≡ version_of log l

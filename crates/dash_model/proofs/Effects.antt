@@ -21,9 +21,11 @@ use Rattle.dash_model.specs.Guard.{DoesIf, Guard}
 use Rattle.dash_model.specs.Row.{msg_row, msg_row_if, row}
 use Rattle.dash_model.specs.Machine.{Machine, Step, event_of, taken, less, CanHappen, after, opening, AreSteps, state_after, Reaches}
 
-same_done : (w : Config) (h : HartState) (a : ℕ) (d e : Performed) → Does w.image w.top h d.need a d.next → Does w.image w.top h e.need a e.next → d ≡ e
+same_done : (w : Config) (h : HartState) (a : ℕ) (d e : Performed) → Does w.image w.top h d.need a d.next → Does w.image w.top h e.need a e.next
+    → d ≡ e
 same_done w h a d e x y =
-    let need : d.need ≡ e.need = one_need w.image w.top h d.need e.need (needs_of w.image w.top h d.next d.need a x) (needs_of w.image w.top h e.next e.need a y) in
+    let need : d.need ≡ e.need =
+    one_need w.image w.top h d.need e.need (needs_of w.image w.top h d.next d.need a x) (needs_of w.image w.top h e.next e.need a y) in
     let next : d.next ≡ e.next = one_after w.image w.top h d.next e.next e.need a (subst (λ n. Does w.image w.top h n a d.next) need x) y in
     λ i. record { need = need i; next = next i }
 
@@ -31,12 +33,15 @@ retires_same : (w : Config) (c h : ℕ) (m n : Need) (a : ℕ) (d e : Performed)
 retires_same w c h m n a d e p x y = same_done w (p.harts h).core a d e x.does y.does
 
 -- a message of which the row does not ask what the hart did
-msg_same : (w : Config) (c f : ℕ) (m : Msg) (d e : Performed) (p : Part) (b : Bool) → msg_row w c f m d p ≡ msg_row w c f m e p → msg_row_if b w c f m d p ≡ msg_row_if b w c f m e p
+msg_same : (w : Config) (c f : ℕ) (m : Msg) (d e : Performed) (p : Part) (b : Bool) → msg_row w c f m d p ≡ msg_row w c f m e p
+    → msg_row_if b w c f m d p ≡ msg_row_if b w c f m e p
 msg_same w c f m d e p true x = x
 msg_same w c f m d e p false x = refl
 
 -- an answer of a lock word
-answer_same : (w : Config) (c f h a : ℕ) (m : Msg) (d e : Performed) (p : Part) (i j : Bool) → ((x : Performed) → msg_row w c f m x p ≡ quiet (answered h j x p)) → DoesIf (i && j) w h a d p → DoesIf (i && j) w h a e p → msg_row_if (i && true) w c f m d p ≡ msg_row_if (i && true) w c f m e p
+answer_same : (w : Config) (c f h a : ℕ) (m : Msg) (d e : Performed) (p : Part) (i j : Bool)
+    → ((x : Performed) → msg_row w c f m x p ≡ quiet (answered h j x p)) → DoesIf (i && j) w h a d p → DoesIf (i && j) w h a e p
+    → msg_row_if (i && true) w c f m d p ≡ msg_row_if (i && true) w c f m e p
 answer_same w c f h a m d e p true true r x y = ap (λ z. msg_row w c f m z p) (same_done w (p.harts h).core a d e x y)
 answer_same w c f h a m d e p true false r x y = r d ∙ sym (r e)
 answer_same w c f h a m d e p false j r x y = refl
@@ -45,7 +50,8 @@ pub row_same : (w : Config) (c : ℕ) (k : Kind) (d e : Performed) (p : Part) �
 unfolding row Guard
 row_same w c (kind.Alu h pc) d e p g k = ap (λ z. row w c (kind.Alu h pc) z p) (retires_same w c h.0 _ _ 0 d e p g.retires k.retires)
 row_same w c (kind.Fence h pc) d e p g k = ap (λ z. row w c (kind.Fence h pc) z p) (retires_same w c h.0 _ _ 0 d e p g.next.retires k.next.retires)
-row_same w c (kind.Hint h pc slot) d e p g k = ap (λ z. row w c (kind.Hint h pc slot) z p) (retires_same w c h.0 _ _ 0 d e p g.next.retires k.next.retires)
+row_same w c (kind.Hint h pc slot) d e p g k =
+    ap (λ z. row w c (kind.Hint h pc slot) z p) (retires_same w c h.0 _ _ 0 d e p g.next.retires k.next.retires)
 row_same w c (kind.Put h pc byte) d e p g k = ap (λ z. row w c (kind.Put h pc byte) z p) (retires_same w c h.0 _ _ 0 d e p g.retires k.retires)
 row_same w c (kind.Stop h pc end) d e p g k = ap (λ z. row w c (kind.Stop h pc end) z p) (retires_same w c h.0 _ _ 0 d e p g.retires k.retires)
 row_same w c (kind.Load a level) d e p g k = ap (λ z. row w c (kind.Load a level) z p) (retires_same w c a.hart.0 _ _ _ d e p g.next k.next)
@@ -62,8 +68,10 @@ row_same w c (kind.Again slot l) d e p g k = refl
 row_same w c (kind.Install slot h l) d e p g k = refl
 row_same w c (kind.Grant a) d e p g k = refl
 row_same w c (kind.Free f a) d e p g k = refl
-row_same w c (kind.Take f (LockGrant h)) d e p g k = answer_same w c f.0 h.0 0 (LockGrant h) d e p (own_hart w c h) (p.harts h.0).asked (λ x. refl) g k
-row_same w c (kind.Take f (UnlockAck h old)) d e p g k = answer_same w c f.0 h.0 old (UnlockAck h old) d e p (own_hart w c h) (p.harts h.0).asked (λ x. refl) g k
+row_same w c (kind.Take f (LockGrant h)) d e p g k =
+    answer_same w c f.0 h.0 0 (LockGrant h) d e p (own_hart w c h) (p.harts h.0).asked (λ x. refl) g k
+row_same w c (kind.Take f (UnlockAck h old)) d e p g k =
+    answer_same w c f.0 h.0 old (UnlockAck h old) d e p (own_hart w c h) (p.harts h.0).asked (λ x. refl) g k
 row_same w c (kind.Take f m) d e p g k = msg_same w c f.0 m d e p (applies w c m p) refl
 
 -- what is left of the lanes does not depend on the stamp of what is taken
@@ -72,7 +80,9 @@ less_same c u v (kind.Take f m) net = refl
 less_same c u v (kind.Free f a) net = refl
 less_same c u v _ net = refl
 
-after_same_event : (w : Config) (m : Machine) (e : Event) (u v : ℕ) (d f : Performed) → row w e.cluster.0 e.kind d (m.parts e.cluster.0) ≡ row w e.cluster.0 e.kind f (m.parts e.cluster.0) → after w m (record { event = e; stamp = u; done = d }) ≡ after w m (record { event = e; stamp = v; done = f })
+after_same_event : (w : Config) (m : Machine) (e : Event) (u v : ℕ) (d f : Performed)
+    → row w e.cluster.0 e.kind d (m.parts e.cluster.0) ≡ row w e.cluster.0 e.kind f (m.parts e.cluster.0)
+    → after w m (record { event = e; stamp = u; done = d }) ≡ after w m (record { event = e; stamp = v; done = f })
 after_same_event w m e u v d f r = ap₂ (λ n x. record {
   parts = λ c. upd m.parts e.cluster.0 (record (x.part) { last = e.stamp }) c;
   net = send n e.stamp e.cluster.0 x.sent;
@@ -81,8 +91,10 @@ after_same_event w m e u v d f r = ap₂ (λ n x. record {
 
 pub after_same : (w : Config) (m : Machine) (g h : Step) → g.event ≡ h.event → CanHappen w m g → CanHappen w m h → after w m g ≡ after w m h
 after_same w m g h e x y =
-    let guard : Guard w g.event.cluster.0 g.event.kind h.done (m.parts g.event.cluster.0) = subst (λ z. Guard w z.cluster.0 z.kind h.done (m.parts z.cluster.0)) (sym e) y.steps.guard in
-    after_same_event w m g.event g.stamp h.stamp g.done h.done (row_same w g.event.cluster.0 g.event.kind g.done h.done (m.parts g.event.cluster.0) x.steps.guard guard) ∙ ap (λ z. after w m (record { event = z; stamp = h.stamp; done = h.done })) e
+    let guard : Guard w g.event.cluster.0 g.event.kind h.done (m.parts g.event.cluster.0) =
+    subst (λ z. Guard w z.cluster.0 z.kind h.done (m.parts z.cluster.0)) (sym e) y.steps.guard in
+    after_same_event w m g.event g.stamp h.stamp g.done h.done (row_same w g.event.cluster.0 g.event.kind g.done h.done (m.parts g.event.cluster.0) x.steps.guard guard)
+    ∙ ap (λ z. after w m (record { event = z; stamp = h.stamp; done = h.done })) e
 
 head_same : (e f : Event) (es fs : List Event) → e ∷ es ≡ f ∷ fs → e ≡ f
 head_same e f es fs x = cc
@@ -90,13 +102,16 @@ head_same e f es fs x = cc
 rest_same : (e f : Event) (es fs : List Event) → e ∷ es ≡ f ∷ fs → es ≡ fs
 rest_same e f es fs x = cc
 
-states_same : (w : Config) (m : Machine) (gs hs : List Step) → map event_of gs ≡ map event_of hs → AreSteps w m gs → AreSteps w m hs → state_after w m gs ≡ state_after w m hs
+states_same : (w : Config) (m : Machine) (gs hs : List Step) → map event_of gs ≡ map event_of hs → AreSteps w m gs → AreSteps w m hs
+    → state_after w m gs ≡ state_after w m hs
 states_same w m [] [] e x y = refl
 states_same w m [] (h ∷ hs) e x y = absurd (cc)
 states_same w m (g ∷ gs) [] e x y = absurd (cc)
 states_same w m (g ∷ gs) (h ∷ hs) e x y =
     let one : after w m g ≡ after w m h = after_same w m g h (head_same g.event h.event (map event_of gs) (map event_of hs) e) x.0 y.0 in
-    states_same w (after w m g) gs hs (rest_same g.event h.event (map event_of gs) (map event_of hs) e) x.1 (subst (λ n. AreSteps w n hs) (sym one) y.1) ∙ ap (λ n. state_after w n hs) one
+    states_same w (after w m g) gs hs (rest_same g.event h.event (map event_of gs) (map event_of hs) e) x.1 (subst (λ n. AreSteps w n hs) (sym one) y.1)
+    ∙ ap (λ n. state_after w n hs) one
 
 pub reach_same : (w : Config) (log : List Event) (m n : Machine) → Reaches w log m → Reaches w log n → m ≡ n
-reach_same w log m n x y = x.state ∙ states_same w (opening w) x.run.steps y.run.steps (x.run.events ∙ sym y.run.events) x.run.happen y.run.happen ∙ sym y.state
+reach_same w log m n x y =
+    x.state ∙ states_same w (opening w) x.run.steps y.run.steps (x.run.events ∙ sym y.run.events) x.run.happen y.run.happen ∙ sym y.state

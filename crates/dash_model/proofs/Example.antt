@@ -73,13 +73,15 @@ abbrev config : Config
 config = record { image = image; top = top }
 
 abbrev load : Instr
-load = instr.Load (record { op = Lw; rd = 5; rs1 = 0; offset = pos 0; rd_in_range = omega arith; rs1_in_range = omega arith; offset_in_range = record { low = omega arith; high = omega arith } })
+load =
+    instr.Load (record { op = Lw; rd = 5; rs1 = 0; offset = pos 0; rd_in_range = omega arith; rs1_in_range = omega arith; offset_in_range = record { low = omega arith; high = omega arith } })
 
 swap_is_not_lr : Swap ≡ Lr → ⊥
 swap_is_not_lr e = cc
 
 abbrev take : Instr
-take = instr.Amo (record { op = Swap; labels = record { aq = true; rl = false }; rd = 6; rs1 = 2; rs2 = 11; rd_in_range = omega arith; rs1_in_range = omega arith; rs2_in_range = omega arith; lr_has_no_source = λ e. absurd (swap_is_not_lr e) })
+take =
+    instr.Amo (record { op = Swap; labels = record { aq = true; rl = false }; rd = 6; rs1 = 2; rs2 = 11; rd_in_range = omega arith; rs1_in_range = omega arith; rs2_in_range = omega arith; lr_has_no_source = λ e. absurd (swap_is_not_lr e) })
 
 abbrev first : HartState
 first = opening_hart image top 0
@@ -199,7 +201,8 @@ unfolding Guard row head tail send newest_of word_among byte_among
 h3 = record { cluster = omega arith; head = refl; steps = record { cluster = refl; stamp = refl; guard = tt } }
 
 -- no line has a copy yet
-no_other : (b : Bool) → held_by 0 (cond {A = Cell} b (record { copy = NoCopy; slot = Reads 0 0 (Came zeros); acks = NoAcks }) (cond b (record { copy = NoCopy; slot = Reads 0 0 Asked; acks = NoAcks }) (cond b (record { copy = NoCopy; slot = Reads 0 0 Asked; acks = NoAcks }) (record { copy = NoCopy; slot = NoSlot; acks = NoAcks })))).copy ≡ false
+no_other : (b : Bool)
+    → held_by 0 (cond {A = Cell} b (record { copy = NoCopy; slot = Reads 0 0 (Came zeros); acks = NoAcks }) (cond b (record { copy = NoCopy; slot = Reads 0 0 Asked; acks = NoAcks }) (cond b (record { copy = NoCopy; slot = Reads 0 0 Asked; acks = NoAcks }) (record { copy = NoCopy; slot = NoSlot; acks = NoAcks })))).copy ≡ false
 no_other true = refl
 no_other false = refl
 

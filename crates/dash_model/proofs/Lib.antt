@@ -20,5 +20,8 @@ pub mod Lanes
 pub mod Effects
 pub mod Changes
 pub mod Example
+pub mod Taking
+pub mod Ready
+pub mod Lifted
 pub mod Merge
 pub mod Local

@@ -34,9 +34,11 @@ opening_holds w l = record {
   bounded = opening_bounded w l;
 }
 
-pub steps_hold : (w : Config) (l v : ℕ) (m : Machine) (gs : List Step) → l < lines w → AreSteps w m gs → Holds w l v m → Holds w l (version_from l v (map event_of gs)) (state_after w m gs)
+pub steps_hold : (w : Config) (l v : ℕ) (m : Machine) (gs : List Step) → l < lines w → AreSteps w m gs → Holds w l v m
+    → Holds w l (version_from l v (map event_of gs)) (state_after w m gs)
 steps_hold w l v m [] i s h = h
 steps_hold w l v m (g ∷ gs) i s h = steps_hold w l (version_by l v g.event.kind) (after w m g) gs i s.1 (keeps_line w l v m g i s.0 h)
 
 pub each_reached : (w : Config) (log : List Event) (m : Machine) (l : ℕ) → l < lines w → Reaches w log m → Holds w l (version_from l 0 log) m
-each_reached w log m l i r = subst (Holds w l (version_from l 0 log)) (sym r.state) (subst (λ es. Holds w l (version_from l 0 es) (state_after w (opening w) r.run.steps)) r.run.events (steps_hold w l 0 (opening w) r.run.steps i r.run.happen (opening_holds w l)))
+each_reached w log m l i r =
+    subst (Holds w l (version_from l 0 log)) (sym r.state) (subst (λ es. Holds w l (version_from l 0 es) (state_after w (opening w) r.run.steps)) r.run.events (steps_hold w l 0 (opening w) r.run.steps i r.run.happen (opening_holds w l)))

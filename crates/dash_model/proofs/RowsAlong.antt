@@ -63,14 +63,19 @@ is_line l k e = grind (arith, nat_tests)
 
 -- a message of a line makes its row send messages of that line
 pub take_sends : (l k h c f : ℕ) (m : Msg) (a : Cell) (b : Home) → is_of l m ≡ true → AllAre l true (take_row k h c f m a b).sent
-take_sends l k h c f (Read x) a b e = subst (λ y. AllAre y true (take_row k h c f (Read x) a b).sent) (is_line x.0 l e) (sends_if x.0 (c == h) (read_row x f b.entry a b) (still a b) (sends_read x f b.entry a b) tt)
-take_sends l k h c f (ReadEx x) a b e = subst (λ y. AllAre y true (take_row k h c f (ReadEx x) a b).sent) (is_line x.0 l e) (sends_if x.0 (c == h) (own_row x f b.entry a b) (still a b) (sends_own x f b.entry a b) tt)
-take_sends l k h c f (FwdRead x r) a b e = subst (λ y. AllAre y true (take_row k h c f (FwdRead x r) a b).sent) (is_line x.0 l e) (sends_give_read x h r.0 a.copy a.acks a b)
-take_sends l k h c f (FwdReadEx x r) a b e = subst (λ y. AllAre y true (take_row k h c f (FwdReadEx x r) a b).sent) (is_line x.0 l e) (sends_give_own x h r.0 a.copy a.acks a b)
+take_sends l k h c f (Read x) a b e =
+    subst (λ y. AllAre y true (take_row k h c f (Read x) a b).sent) (is_line x.0 l e) (sends_if x.0 (c == h) (read_row x f b.entry a b) (still a b) (sends_read x f b.entry a b) tt)
+take_sends l k h c f (ReadEx x) a b e =
+    subst (λ y. AllAre y true (take_row k h c f (ReadEx x) a b).sent) (is_line x.0 l e) (sends_if x.0 (c == h) (own_row x f b.entry a b) (still a b) (sends_own x f b.entry a b) tt)
+take_sends l k h c f (FwdRead x r) a b e =
+    subst (λ y. AllAre y true (take_row k h c f (FwdRead x r) a b).sent) (is_line x.0 l e) (sends_give_read x h r.0 a.copy a.acks a b)
+take_sends l k h c f (FwdReadEx x r) a b e =
+    subst (λ y. AllAre y true (take_row k h c f (FwdReadEx x r) a b).sent) (is_line x.0 l e) (sends_give_own x h r.0 a.copy a.acks a b)
 take_sends l k h c f (Inval x r) a b e = (e, tt)
 take_sends l k h c f (WriteBack x d) a b e = sends_write_back l d ((c == h) && is_dirty_of f b.entry) a b
 take_sends l k h c f (SharingBack x d r) a b e = sends_sharing_back l f d r.0 ((c == h) && is_dirty_of f b.entry) a b
-take_sends l k h c f (Transfer x r) a b e = subst (λ y. AllAre y true (take_row k h c f (Transfer x r) a b).sent) (is_line x.0 l e) (sends_transfer x r.0 ((c == h) && is_dirty_of f b.entry) a b)
+take_sends l k h c f (Transfer x r) a b e =
+    subst (λ y. AllAre y true (take_row k h c f (Transfer x r) a b).sent) (is_line x.0 l e) (sends_transfer x r.0 ((c == h) && is_dirty_of f b.entry) a b)
 take_sends l k h c f (LockAsk t n word v) a b e = tt
 take_sends l k h c f (Unlock t n word) a b e = tt
 take_sends l k h c f (Data x d) a b e = tt

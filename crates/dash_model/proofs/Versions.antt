@@ -45,130 +45,186 @@ old_backs_only v x p e = old_backs_msg_only v x p.src p.dst p.msg e
 old_datas_only : (v x : ℕ) (p : Packet) → datas x p ≡ 0 → old_datas v x p ≡ 0
 old_datas_only v x p e = old_datas_msg_only v x p.src p.dst p.msg e
 
-pub ask_read : (w : Where) (m : ℕ) (s : State) (p : Place) (i c n t x : ℕ) → MayAct (AskRead n t) (s.cells c) → Facts w.home s p x → Facts w.home s p c → Versions s p m x → Versions s p m c → Versions (after w s (Acts i c (AskRead n t))) p m x
+pub ask_read : (w : Where) (m : ℕ) (s : State) (p : Place) (i c n t x : ℕ) → MayAct (AskRead n t) (s.cells c) → Facts w.home s p x
+    → Facts w.home s p c → Versions s p m x → Versions s p m c → Versions (after w s (Acts i c (AskRead n t))) p m x
 ask_read w m s p i c n t x may k kc v vc =
     let none = weigh-only (datas c) (old_datas m c) (old_datas_only m c) s.net in
     grind (arith, nat_tests, sends)
 
-pub ask_own : (w : Where) (m : ℕ) (s : State) (p : Place) (i c n t x : ℕ) → MayAct (AskOwn n t) (s.cells c) → Facts w.home s p x → Facts w.home s p c → Versions s p m x → Versions s p m c → Versions (after w s (Acts i c (AskOwn n t))) p m x
+pub ask_own : (w : Where) (m : ℕ) (s : State) (p : Place) (i c n t x : ℕ) → MayAct (AskOwn n t) (s.cells c) → Facts w.home s p x → Facts w.home s p c
+    → Versions s p m x → Versions s p m c → Versions (after w s (Acts i c (AskOwn n t))) p m x
 ask_own w m s p i c n t x may k kc v vc = grind (arith, nat_tests, sends)
 
-pub again : (w : Where) (m : ℕ) (s : State) (p : Place) (i c x : ℕ) → Facts w.home s p x → Facts w.home s p c → Versions s p m x → Versions s p m c → Versions (after w s (Acts i c Again)) p m x
+pub again : (w : Where) (m : ℕ) (s : State) (p : Place) (i c x : ℕ) → Facts w.home s p x → Facts w.home s p c → Versions s p m x → Versions s p m c
+    → Versions (after w s (Acts i c Again)) p m x
 again w m s p i c x k kc v vc =
     let none = weigh-only (datas c) (old_datas m c) (old_datas_only m c) s.net in
     grind (arith, nat_tests, sends)
 
-pub install : (w : Where) (m : ℕ) (s : State) (p : Place) (i c x : ℕ) → Facts w.home s p x → Facts w.home s p c → Versions s p m x → Versions s p m c → Versions (after w s (Acts i c Install)) p m x
+pub install : (w : Where) (m : ℕ) (s : State) (p : Place) (i c x : ℕ) → Facts w.home s p x → Facts w.home s p c → Versions s p m x → Versions s p m c
+    → Versions (after w s (Acts i c Install)) p m x
 install w m s p i c x k kc v vc = grind (arith, nat_tests, sends)
 
-pub drop : (w : Where) (m : ℕ) (s : State) (p : Place) (i c t x : ℕ) → MayAct (Drop t) (s.cells c) → Facts w.home s p x → Facts w.home s p c → Versions s p m x → Versions s p m c → Versions (after w s (Acts i c (Drop t))) p m x
+pub drop : (w : Where) (m : ℕ) (s : State) (p : Place) (i c t x : ℕ) → MayAct (Drop t) (s.cells c) → Facts w.home s p x → Facts w.home s p c
+    → Versions s p m x → Versions s p m c → Versions (after w s (Acts i c (Drop t))) p m x
 drop w m s p i c t x may k kc v vc = grind (arith, nat_tests, sends)
 
-pub bus_read : (w : Where) (m : ℕ) (s : State) (p : Place) (i c t x : ℕ) → Facts w.home s p x → Facts w.home s p c → Versions s p m x → Versions s p m c → Versions (after w s (Acts i c (BusRead t))) p m x
+pub bus_read : (w : Where) (m : ℕ) (s : State) (p : Place) (i c t x : ℕ) → Facts w.home s p x → Facts w.home s p c → Versions s p m x
+    → Versions s p m c → Versions (after w s (Acts i c (BusRead t))) p m x
 bus_read w m s p i c t x k kc v vc = grind (arith, nat_tests, sends)
 
-pub bus_own : (w : Where) (m : ℕ) (s : State) (p : Place) (i c t x : ℕ) → Facts w.home s p x → Facts w.home s p c → Versions s p m x → Versions s p m c → Versions (after w s (Acts i c (BusOwn t))) p m x
+pub bus_own : (w : Where) (m : ℕ) (s : State) (p : Place) (i c t x : ℕ) → Facts w.home s p x → Facts w.home s p c → Versions s p m x
+    → Versions s p m c → Versions (after w s (Acts i c (BusOwn t))) p m x
 bus_own w m s p i c t x k kc v vc = grind (arith, nat_tests, sends)
 
-pub data_comes : (w : Where) (m : ℕ) (s : State) (p : Place) (i c f u : ℕ) (l : LineId) (d : Line) (x : ℕ) → head f c Reply s.net ≡ Some (parcel f c (Data l d) u) → Facts w.home s p x → Facts w.home s p c → Versions s p m x → Versions s p m c → Versions (after w s (Takes i c f (Data l d))) p m x
+pub data_comes : (w : Where) (m : ℕ) (s : State) (p : Place) (i c f u : ℕ) (l : LineId) (d : Line) (x : ℕ)
+    → head f c Reply s.net ≡ Some (parcel f c (Data l d) u) → Facts w.home s p x → Facts w.home s p c → Versions s p m x → Versions s p m c
+    → Versions (after w s (Takes i c f (Data l d))) p m x
 data_comes w m s p i c f u l d x first k kc v vc =
     let less = cut f c Reply (parcel f c (Data l d) u) s.net first in
     grind (arith, nat_tests, sends)
 
-pub ack : (w : Where) (m : ℕ) (s : State) (p : Place) (i c f u : ℕ) (l : LineId) (x : ℕ) → head f c Reply s.net ≡ Some (parcel f c (Ack l) u) → Facts w.home s p x → Facts w.home s p c → Versions s p m x → Versions s p m c → Versions (after w s (Takes i c f (Ack l))) p m x
+pub ack : (w : Where) (m : ℕ) (s : State) (p : Place) (i c f u : ℕ) (l : LineId) (x : ℕ) → head f c Reply s.net ≡ Some (parcel f c (Ack l) u)
+    → Facts w.home s p x → Facts w.home s p c → Versions s p m x → Versions s p m c → Versions (after w s (Takes i c f (Ack l))) p m x
 ack w m s p i c f u l x first k kc v vc =
     let less = cut f c Reply (parcel f c (Ack l) u) s.net first in
     grind (arith, nat_tests, sends)
 
-pub transfer_ack : (w : Where) (m : ℕ) (s : State) (p : Place) (i c f u : ℕ) (l : LineId) (x : ℕ) → head f c Reply s.net ≡ Some (parcel f c (TransferAck l) u) → Facts w.home s p x → Facts w.home s p c → Versions s p m x → Versions s p m c → Versions (after w s (Takes i c f (TransferAck l))) p m x
+pub transfer_ack : (w : Where) (m : ℕ) (s : State) (p : Place) (i c f u : ℕ) (l : LineId) (x : ℕ)
+    → head f c Reply s.net ≡ Some (parcel f c (TransferAck l) u) → Facts w.home s p x → Facts w.home s p c → Versions s p m x → Versions s p m c
+    → Versions (after w s (Takes i c f (TransferAck l))) p m x
 transfer_ack w m s p i c f u l x first k kc v vc =
     let less = cut f c Reply (parcel f c (TransferAck l) u) s.net first in
     grind (arith, nat_tests, sends)
 
-pub inval : (w : Where) (m : ℕ) (s : State) (p : Place) (i c f u : ℕ) (l : LineId) (r : ClusterId) (x : ℕ) → head f c Request s.net ≡ Some (parcel f c (Inval l r) u) → Facts w.home s p x → Facts w.home s p c → Facts w.home s p r.0 → Versions s p m x → Versions s p m c → Versions s p m r.0 → Versions (after w s (Takes i c f (Inval l r))) p m x
+pub inval : (w : Where) (m : ℕ) (s : State) (p : Place) (i c f u : ℕ) (l : LineId) (r : ClusterId) (x : ℕ)
+    → head f c Request s.net ≡ Some (parcel f c (Inval l r) u) → Facts w.home s p x → Facts w.home s p c → Facts w.home s p r.0 → Versions s p m x
+    → Versions s p m c → Versions s p m r.0 → Versions (after w s (Takes i c f (Inval l r))) p m x
 inval w m s p i c f u l r x first k kc kr v vc vr =
     let less = cut f c Request (parcel f c (Inval l r) u) s.net first in
     grind (arith, nat_tests, sends)
 
-pub evict : (w : Where) (m : ℕ) (s : State) (i c x : ℕ) (hs : List ℕ) (o : ℕ) (d : Line) → (s.cells c).copy ≡ Held hs (Some o) d → (s.cells c).acks ≡ NoAcks → Facts w.home s (At c) x → Facts w.home s (At c) c → Versions s (At c) m x → Versions s (At c) m c → Versions (apply i c (evict_row w.line w.home (Held hs (Some o) d) (s.cells c) s.home) s.net s) (Back c) m x
+pub evict : (w : Where) (m : ℕ) (s : State) (i c x : ℕ) (hs : List ℕ) (o : ℕ) (d : Line) → (s.cells c).copy ≡ Held hs (Some o) d
+    → (s.cells c).acks ≡ NoAcks → Facts w.home s (At c) x → Facts w.home s (At c) c → Versions s (At c) m x → Versions s (At c) m c
+    → Versions (apply i c (evict_row w.line w.home (Held hs (Some o) d) (s.cells c) s.home) s.net s) (Back c) m x
 evict w m s i c x hs o d e a k kc v vc = grind (arith, nat_tests, sends)
 
-pub fwd_read_given : (w : Where) (m : ℕ) (s : State) (i c f u : ℕ) (l : LineId) (r : ClusterId) (x : ℕ) (hs : List ℕ) (o : ℕ) (d : Line) → head f c Request s.net ≡ Some (parcel f c (FwdRead l r) u) → (s.cells c).copy ≡ Held hs (Some o) d → (s.cells c).acks ≡ NoAcks → Facts w.home s (At c) x → Facts w.home s (At c) c → Facts w.home s (At c) r.0 → Versions s (At c) m x → Versions s (At c) m c → Versions s (At c) m r.0 → Versions (apply i c (give_read l w.home r.0 (Held hs (Some o) d) NoAcks (s.cells c) s.home) (tail f c Request s.net) s) (Back c) m x
+pub fwd_read_given : (w : Where) (m : ℕ) (s : State) (i c f u : ℕ) (l : LineId) (r : ClusterId) (x : ℕ) (hs : List ℕ) (o : ℕ) (d : Line)
+    → head f c Request s.net ≡ Some (parcel f c (FwdRead l r) u) → (s.cells c).copy ≡ Held hs (Some o) d → (s.cells c).acks ≡ NoAcks
+    → Facts w.home s (At c) x → Facts w.home s (At c) c → Facts w.home s (At c) r.0 → Versions s (At c) m x → Versions s (At c) m c
+    → Versions s (At c) m r.0
+    → Versions (apply i c (give_read l w.home r.0 (Held hs (Some o) d) NoAcks (s.cells c) s.home) (tail f c Request s.net) s) (Back c) m x
 fwd_read_given w m s i c f u l r x hs o d first e a k kc kr v vc vr =
     let less = cut f c Request (parcel f c (FwdRead l r) u) s.net first in
     grind (arith, nat_tests, sends)
 
-pub fwd_read_ex_given : (w : Where) (m : ℕ) (s : State) (i c f u : ℕ) (l : LineId) (r : ClusterId) (x : ℕ) (hs : List ℕ) (o : ℕ) (d : Line) → head f c Request s.net ≡ Some (parcel f c (FwdReadEx l r) u) → (s.cells c).copy ≡ Held hs (Some o) d → (s.cells c).acks ≡ NoAcks → Facts w.home s (At c) x → Facts w.home s (At c) c → Facts w.home s (At c) r.0 → Versions s (At c) m x → Versions s (At c) m c → Versions s (At c) m r.0 → Versions (apply i c (give_own l w.home r.0 (Held hs (Some o) d) NoAcks (s.cells c) s.home) (tail f c Request s.net) s) (Moving c r.0) m x
+pub fwd_read_ex_given : (w : Where) (m : ℕ) (s : State) (i c f u : ℕ) (l : LineId) (r : ClusterId) (x : ℕ) (hs : List ℕ) (o : ℕ) (d : Line)
+    → head f c Request s.net ≡ Some (parcel f c (FwdReadEx l r) u) → (s.cells c).copy ≡ Held hs (Some o) d → (s.cells c).acks ≡ NoAcks
+    → Facts w.home s (At c) x → Facts w.home s (At c) c → Facts w.home s (At c) r.0 → Versions s (At c) m x → Versions s (At c) m c
+    → Versions s (At c) m r.0
+    → Versions (apply i c (give_own l w.home r.0 (Held hs (Some o) d) NoAcks (s.cells c) s.home) (tail f c Request s.net) s) (Moving c r.0) m x
 fwd_read_ex_given w m s i c f u l r x hs o d first e a k kc kr v vc vr =
     let less = cut f c Request (parcel f c (FwdReadEx l r) u) s.net first in
     grind (arith, nat_tests, sends)
 
-pub fwd_read_refused : (w : Where) (m : ℕ) (s : State) (p : Place) (i c f u : ℕ) (l : LineId) (r : ClusterId) (x : ℕ) → head f c Request s.net ≡ Some (parcel f c (FwdRead l r) u) → Facts w.home s p x → Facts w.home s p r.0 → Versions s p m x → Versions s p m r.0 → Versions (apply i c (record { cell = s.cells c; home = s.home; sent = to r.0 (Nak l) ∷ [] }) (tail f c Request s.net) s) p m x
+pub fwd_read_refused : (w : Where) (m : ℕ) (s : State) (p : Place) (i c f u : ℕ) (l : LineId) (r : ClusterId) (x : ℕ)
+    → head f c Request s.net ≡ Some (parcel f c (FwdRead l r) u) → Facts w.home s p x → Facts w.home s p r.0 → Versions s p m x → Versions s p m r.0
+    → Versions (apply i c (record { cell = s.cells c; home = s.home; sent = to r.0 (Nak l) ∷ [] }) (tail f c Request s.net) s) p m x
 fwd_read_refused w m s p i c f u l r x first k kr v vr =
     let less = cut f c Request (parcel f c (FwdRead l r) u) s.net first in
     grind (arith, nat_tests, sends)
 
-pub fwd_read_ex_refused : (w : Where) (m : ℕ) (s : State) (p : Place) (i c f u : ℕ) (l : LineId) (r : ClusterId) (x : ℕ) → head f c Request s.net ≡ Some (parcel f c (FwdReadEx l r) u) → Facts w.home s p x → Facts w.home s p r.0 → Versions s p m x → Versions s p m r.0 → Versions (apply i c (record { cell = s.cells c; home = s.home; sent = to r.0 (Nak l) ∷ [] }) (tail f c Request s.net) s) p m x
+pub fwd_read_ex_refused : (w : Where) (m : ℕ) (s : State) (p : Place) (i c f u : ℕ) (l : LineId) (r : ClusterId) (x : ℕ)
+    → head f c Request s.net ≡ Some (parcel f c (FwdReadEx l r) u) → Facts w.home s p x → Facts w.home s p r.0 → Versions s p m x → Versions s p m r.0
+    → Versions (apply i c (record { cell = s.cells c; home = s.home; sent = to r.0 (Nak l) ∷ [] }) (tail f c Request s.net) s) p m x
 fwd_read_ex_refused w m s p i c f u l r x first k kr v vr =
     let less = cut f c Request (parcel f c (FwdReadEx l r) u) s.net first in
     grind (arith, nat_tests, sends)
 
-pub nak : (w : Where) (m : ℕ) (s : State) (p : Place) (i c f u : ℕ) (l : LineId) (x : ℕ) → head f c Reply s.net ≡ Some (parcel f c (Nak l) u) → Facts w.home s p x → Facts w.home s p c → Versions s p m x → Versions s p m c → Versions (after w s (Takes i c f (Nak l))) p m x
+pub nak : (w : Where) (m : ℕ) (s : State) (p : Place) (i c f u : ℕ) (l : LineId) (x : ℕ) → head f c Reply s.net ≡ Some (parcel f c (Nak l) u)
+    → Facts w.home s p x → Facts w.home s p c → Versions s p m x → Versions s p m c → Versions (after w s (Takes i c f (Nak l))) p m x
 nak w m s p i c f u l x first k kc v vc =
     let less = cut f c Reply (parcel f c (Nak l) u) s.net first in
     grind (arith, nat_tests, sends)
 
-pub data_ex : (w : Where) (m : ℕ) (s : State) (p : Place) (i c f u : ℕ) (l : LineId) (d : Line) (n x : ℕ) → head f c Reply s.net ≡ Some (parcel f c (DataEx l d n) u) → Facts w.home s p x → Facts w.home s p c → Versions s p m x → Versions s p m c → Versions (after w s (Takes i c f (DataEx l d n))) p m x
+pub data_ex : (w : Where) (m : ℕ) (s : State) (p : Place) (i c f u : ℕ) (l : LineId) (d : Line) (n x : ℕ)
+    → head f c Reply s.net ≡ Some (parcel f c (DataEx l d n) u) → Facts w.home s p x → Facts w.home s p c → Versions s p m x → Versions s p m c
+    → Versions (after w s (Takes i c f (DataEx l d n))) p m x
 data_ex w m s p i c f u l d n x first k kc v vc =
     let less = cut f c Reply (parcel f c (DataEx l d n) u) s.net first in
     grind (arith, nat_tests, sends)
 
-pub read_uncached : (w : Where) (m : ℕ) (s : State) (i f u : ℕ) (l : LineId) (x : ℕ) → head f w.home Request s.net ≡ Some (parcel f w.home (Read l) u) → s.home.entry ≡ Uncached → Facts w.home s AtHome x → Facts w.home s AtHome f → Versions s AtHome m x → Versions s AtHome m f → Versions (apply i w.home (record { cell = s.cells w.home; home = record s.home { entry = SharedBy (f ∷ []) }; sent = to f (Data l s.home.mem) ∷ [] }) (tail f w.home Request s.net) s) AtHome m x
+pub read_uncached : (w : Where) (m : ℕ) (s : State) (i f u : ℕ) (l : LineId) (x : ℕ) → head f w.home Request s.net ≡ Some (parcel f w.home (Read l) u)
+    → s.home.entry ≡ Uncached → Facts w.home s AtHome x → Facts w.home s AtHome f → Versions s AtHome m x → Versions s AtHome m f
+    → Versions (apply i w.home (record { cell = s.cells w.home; home = record s.home { entry = SharedBy (f ∷ []) }; sent = to f (Data l s.home.mem) ∷ [] }) (tail f w.home Request s.net) s) AtHome m x
 read_uncached w m s i f u l x first e k kf v vf =
     let less = cut f w.home Request (parcel f w.home (Read l) u) s.net first in
     grind (arith, nat_tests, sends)
 
-pub read_shared : (w : Where) (m : ℕ) (s : State) (i f u : ℕ) (l : LineId) (x : ℕ) (cs : List ℕ) → head f w.home Request s.net ≡ Some (parcel f w.home (Read l) u) → s.home.entry ≡ SharedBy cs → Facts w.home s AtHome x → Facts w.home s AtHome f → Versions s AtHome m x → Versions s AtHome m f → Versions (apply i w.home (record { cell = s.cells w.home; home = record s.home { entry = SharedBy (with_member f cs) }; sent = to f (Data l s.home.mem) ∷ [] }) (tail f w.home Request s.net) s) AtHome m x
+pub read_shared : (w : Where) (m : ℕ) (s : State) (i f u : ℕ) (l : LineId) (x : ℕ) (cs : List ℕ)
+    → head f w.home Request s.net ≡ Some (parcel f w.home (Read l) u) → s.home.entry ≡ SharedBy cs → Facts w.home s AtHome x → Facts w.home s AtHome f
+    → Versions s AtHome m x → Versions s AtHome m f
+    → Versions (apply i w.home (record { cell = s.cells w.home; home = record s.home { entry = SharedBy (with_member f cs) }; sent = to f (Data l s.home.mem) ∷ [] }) (tail f w.home Request s.net) s) AtHome m x
 read_shared w m s i f u l x cs first e k kf v vf =
     let less = cut f w.home Request (parcel f w.home (Read l) u) s.net first in
     grind (arith, nat_tests, sends)
 
-pub read_dirty : (w : Where) (m : ℕ) (s : State) (p : Place) (i f u : ℕ) (l : LineId) (x o : ℕ) → head f w.home Request s.net ≡ Some (parcel f w.home (Read l) u) → Facts w.home s p x → Versions s p m x → Versions (apply i w.home (record { cell = s.cells w.home; home = s.home; sent = to o (FwdRead l (cluster_id f)) ∷ [] }) (tail f w.home Request s.net) s) p m x
+pub read_dirty : (w : Where) (m : ℕ) (s : State) (p : Place) (i f u : ℕ) (l : LineId) (x o : ℕ)
+    → head f w.home Request s.net ≡ Some (parcel f w.home (Read l) u) → Facts w.home s p x → Versions s p m x
+    → Versions (apply i w.home (record { cell = s.cells w.home; home = s.home; sent = to o (FwdRead l (cluster_id f)) ∷ [] }) (tail f w.home Request s.net) s) p m x
 read_dirty w m s p i f u l x o first k v =
     let less = cut f w.home Request (parcel f w.home (Read l) u) s.net first in
     grind (arith, nat_tests, sends)
 
-pub own_uncached : (w : Where) (m : ℕ) (s : State) (i f u : ℕ) (l : LineId) (x : ℕ) → head f w.home Request s.net ≡ Some (parcel f w.home (ReadEx l) u) → s.home.entry ≡ Uncached → Facts w.home s AtHome x → Facts w.home s AtHome f → Versions s AtHome m x → Versions s AtHome m f → Versions (apply i w.home (record { cell = s.cells w.home; home = record s.home { entry = Dirty f }; sent = to f (DataEx l s.home.mem 0) ∷ [] }) (tail f w.home Request s.net) s) (At f) m x
+pub own_uncached : (w : Where) (m : ℕ) (s : State) (i f u : ℕ) (l : LineId) (x : ℕ)
+    → head f w.home Request s.net ≡ Some (parcel f w.home (ReadEx l) u) → s.home.entry ≡ Uncached → Facts w.home s AtHome x → Facts w.home s AtHome f
+    → Versions s AtHome m x → Versions s AtHome m f
+    → Versions (apply i w.home (record { cell = s.cells w.home; home = record s.home { entry = Dirty f }; sent = to f (DataEx l s.home.mem 0) ∷ [] }) (tail f w.home Request s.net) s) (At f) m x
 own_uncached w m s i f u l x first e k kf v vf =
     let less = cut f w.home Request (parcel f w.home (ReadEx l) u) s.net first in
     grind (arith, nat_tests, sends)
 
-pub own_shared : (w : Where) (m : ℕ) (s : State) (i f u : ℕ) (l : LineId) (x : ℕ) (cs : List ℕ) → head f w.home Request s.net ≡ Some (parcel f w.home (ReadEx l) u) → s.home.entry ≡ SharedBy cs → Facts w.home s AtHome x → Facts w.home s AtHome f → Versions s AtHome m x → Versions s AtHome m f → Versions (apply i w.home (record { cell = s.cells w.home; home = record s.home { entry = Dirty f }; sent = invals_to l f (without f cs) ++ (to f (DataEx l s.home.mem (length (without f cs))) ∷ []) }) (tail f w.home Request s.net) s) (At f) m x
+pub own_shared : (w : Where) (m : ℕ) (s : State) (i f u : ℕ) (l : LineId) (x : ℕ) (cs : List ℕ)
+    → head f w.home Request s.net ≡ Some (parcel f w.home (ReadEx l) u) → s.home.entry ≡ SharedBy cs → Facts w.home s AtHome x
+    → Facts w.home s AtHome f → Versions s AtHome m x → Versions s AtHome m f
+    → Versions (apply i w.home (record { cell = s.cells w.home; home = record s.home { entry = Dirty f }; sent = invals_to l f (without f cs) ++ (to f (DataEx l s.home.mem (length (without f cs))) ∷ []) }) (tail f w.home Request s.net) s) (At f) m x
 own_shared w m s i f u l x cs first e k kf v vf =
     let less = cut f w.home Request (parcel f w.home (ReadEx l) u) s.net first in
     grind (arith, nat_tests, vbursts)
 
-pub own_dirty : (w : Where) (m : ℕ) (s : State) (p : Place) (i f u : ℕ) (l : LineId) (x o : ℕ) → head f w.home Request s.net ≡ Some (parcel f w.home (ReadEx l) u) → Facts w.home s p x → Versions s p m x → Versions (apply i w.home (record { cell = s.cells w.home; home = s.home; sent = to o (FwdReadEx l (cluster_id f)) ∷ [] }) (tail f w.home Request s.net) s) p m x
+pub own_dirty : (w : Where) (m : ℕ) (s : State) (p : Place) (i f u : ℕ) (l : LineId) (x o : ℕ)
+    → head f w.home Request s.net ≡ Some (parcel f w.home (ReadEx l) u) → Facts w.home s p x → Versions s p m x
+    → Versions (apply i w.home (record { cell = s.cells w.home; home = s.home; sent = to o (FwdReadEx l (cluster_id f)) ∷ [] }) (tail f w.home Request s.net) s) p m x
 own_dirty w m s p i f u l x o first k v =
     let less = cut f w.home Request (parcel f w.home (ReadEx l) u) s.net first in
     grind (arith, nat_tests, sends)
 
-pub write_back : (w : Where) (m : ℕ) (s : State) (i c f u : ℕ) (l : LineId) (d : Line) (x : ℕ) → head f c Request s.net ≡ Some (parcel f c (WriteBack l d) u) → Facts w.home s (Back f) x → Facts w.home s (Back f) f → Versions s (Back f) m x → Versions s (Back f) m f → Versions (apply i c (record { cell = s.cells c; home = record { mem = d; entry = Uncached }; sent = [] }) (tail f c Request s.net) s) AtHome m x
+pub write_back : (w : Where) (m : ℕ) (s : State) (i c f u : ℕ) (l : LineId) (d : Line) (x : ℕ)
+    → head f c Request s.net ≡ Some (parcel f c (WriteBack l d) u) → Facts w.home s (Back f) x → Facts w.home s (Back f) f → Versions s (Back f) m x
+    → Versions s (Back f) m f
+    → Versions (apply i c (record { cell = s.cells c; home = record { mem = d; entry = Uncached }; sent = [] }) (tail f c Request s.net) s) AtHome m x
 write_back w m s i c f u l d x first k kf v vf =
     let less = cut f c Request (parcel f c (WriteBack l d) u) s.net first in
     grind (arith, nat_tests, sends)
 
-pub sharing_back : (w : Where) (m : ℕ) (s : State) (i c f u : ℕ) (l : LineId) (d : Line) (r : ClusterId) (x : ℕ) → head f c Request s.net ≡ Some (parcel f c (SharingBack l d r) u) → Facts w.home s (Back f) x → Facts w.home s (Back f) f → Versions s (Back f) m x → Versions s (Back f) m f → Versions (apply i c (record { cell = s.cells c; home = record { mem = d; entry = SharedBy (with_member f (r.0 ∷ [])) }; sent = [] }) (tail f c Request s.net) s) AtHome m x
+pub sharing_back : (w : Where) (m : ℕ) (s : State) (i c f u : ℕ) (l : LineId) (d : Line) (r : ClusterId) (x : ℕ)
+    → head f c Request s.net ≡ Some (parcel f c (SharingBack l d r) u) → Facts w.home s (Back f) x → Facts w.home s (Back f) f
+    → Versions s (Back f) m x → Versions s (Back f) m f
+    → Versions (apply i c (record { cell = s.cells c; home = record { mem = d; entry = SharedBy (with_member f (r.0 ∷ [])) }; sent = [] }) (tail f c Request s.net) s) AtHome m x
 sharing_back w m s i c f u l d r x first k kf v vf =
     let less = cut f c Request (parcel f c (SharingBack l d r) u) s.net first in
     grind (arith, nat_tests, sends)
 
-pub transfer : (w : Where) (m : ℕ) (s : State) (i c f u : ℕ) (l : LineId) (r : ClusterId) (x : ℕ) → head f c Request s.net ≡ Some (parcel f c (Transfer l r) u) → Facts w.home s (Moving f r.0) x → Facts w.home s (Moving f r.0) f → Facts w.home s (Moving f r.0) r.0 → Versions s (Moving f r.0) m x → Versions s (Moving f r.0) m f → Versions s (Moving f r.0) m r.0 → Versions (apply i c (record { cell = s.cells c; home = record s.home { entry = Dirty r.0 }; sent = to r.0 (TransferAck l) ∷ [] }) (tail f c Request s.net) s) (At r.0) m x
+pub transfer : (w : Where) (m : ℕ) (s : State) (i c f u : ℕ) (l : LineId) (r : ClusterId) (x : ℕ)
+    → head f c Request s.net ≡ Some (parcel f c (Transfer l r) u) → Facts w.home s (Moving f r.0) x → Facts w.home s (Moving f r.0) f
+    → Facts w.home s (Moving f r.0) r.0 → Versions s (Moving f r.0) m x → Versions s (Moving f r.0) m f → Versions s (Moving f r.0) m r.0
+    → Versions (apply i c (record { cell = s.cells c; home = record s.home { entry = Dirty r.0 }; sent = to r.0 (TransferAck l) ∷ [] }) (tail f c Request s.net) s) (At r.0) m x
 transfer w m s i c f u l r x first k kf kr v vf vr =
     let less = cut f c Request (parcel f c (Transfer l r) u) s.net first in
     grind (arith, nat_tests, sends)
 
-pub still_keeps : (w : Where) (m : ℕ) (s : State) (p : Place) (i c x : ℕ) → Facts w.home s p x → Versions s p m x → Versions (apply i c (still (s.cells c) s.home) s.net s) p m x
+pub still_keeps : (w : Where) (m : ℕ) (s : State) (p : Place) (i c x : ℕ) → Facts w.home s p x → Versions s p m x
+    → Versions (apply i c (still (s.cells c) s.home) s.net s) p m x
 still_keeps w m s p i c x k v = grind (arith, nat_tests, sends)
 
 -- the token is at a cluster, so it is nowhere else, nor at home or on its way there
@@ -193,7 +249,8 @@ pub off_not : (v : ℕ) (d : Line) → other v d ≡ 0 → d.version ≡ v
 off_not v d e = grind (arith, nat_tests)
 
 pub owner_current : (hs : List ℕ) (o : ℕ) (e : Line) (k : Copy) (m r : ℕ) → k ≡ Held hs (Some o) e → owner_off k m + r ≡ 0 → e.version ≡ m
-owner_current hs o e k m r f g = let q : owner_off (Held hs (Some o) e) m + r ≡ 0 = subst (λ k. owner_off k m + r ≡ 0) f g in off_not m e (omega arith)
+owner_current hs o e k m r f g =
+    let q : owner_off (Held hs (Some o) e) m + r ≡ 0 = subst (λ k. owner_off k m + r ≡ 0) f g in off_not m e (omega arith)
 
 not_reading : (k : Copy) (b : Slot) (hs : List ℕ) (o : ℕ) (e : Line) → k ≡ Held hs (Some o) e → is_reading b + held k ≤ 1 → is_reading b ≡ 0
 not_reading k b hs o e f g = grind (arith, nat_tests)
@@ -238,9 +295,11 @@ sum_one b c h e l = (omega arith, omega arith)
 abbrev pub Fresh : ℕ → ℕ → State → Cell → Type 0
 Fresh v x s a = (1 ≤ weigh (invals_at x) s.net) ⊎ (shared_off a.copy v + read_off a.slot v + asked a.slot (weigh (old_datas v x) s.net) ≡ 0)
 
-covered_fresh : (s : State) (p : Place) (v x : ℕ) → holds p x ≡ 0 → marked x s.home.entry ≡ 0 → weigh (shares x) s.net ≡ 0 → (weigh (datas x) s.net ≡ 0 → weigh (old_datas v x) s.net ≡ 0) → Cover s p x → Fresh v x s (s.cells x)
+covered_fresh : (s : State) (p : Place) (v x : ℕ) → holds p x ≡ 0 → marked x s.home.entry ≡ 0 → weigh (shares x) s.net ≡ 0
+    → (weigh (datas x) s.net ≡ 0 → weigh (old_datas v x) s.net ≡ 0) → Cover s p x → Fresh v x s (s.cells x)
 covered_fresh s p v x h mk sh f (inl one_here) = absurd (omega arith)
-covered_fresh s p v x h mk sh f (inr (inl nothing)) = inr (none_old (s.cells x).copy (s.cells x).slot v (weigh (datas x) s.net) (weigh (old_datas v x) s.net) nothing f)
+covered_fresh s p v x h mk sh f (inr (inl nothing)) =
+    inr (none_old (s.cells x).copy (s.cells x).slot v (weigh (datas x) s.net) (weigh (old_datas v x) s.net) nothing f)
 covered_fresh s p v x h mk sh f (inr (inr some)) = inl (omega arith)
 
 shares_only_msg : (x a b : ℕ) (m : Msg) → back_any_msg m ≡ 0 → shares_msg x a b m ≡ 0
@@ -278,12 +337,14 @@ fresh_sent : (s : State) (i c x v : ℕ) (a b : Cell) → Fresh v x s b → Fres
 fresh_sent s i c x v a b (inl e) = inl (let f = send-none (invals_at x) s.net i c in omega arith)
 fresh_sent s i c x v a b (inr e) = inr (ap (λ n. shared_off b.copy v + read_off b.slot v + asked b.slot n) (send-none (old_datas v x) s.net i c) ∙ e)
 
-commit_other : (s : State) (p : Place) (h i c x v : ℕ) (a : Cell) → x ≢ c → holds p c ≡ 1 → Facts h s p x → Cover s p x → Versions (written s i c a) p v x
+commit_other : (s : State) (p : Place) (h i c x v : ℕ) (a : Cell) → x ≢ c → holds p c ≡ 1 → Facts h s p x → Cover s p x
+    → Versions (written s i c a) p v x
 commit_other s p h i c x v a n hold k cover =
     let only = only_at p c x hold in
     let here : holds p x ≡ 0 = only.here ∙ one_other c x n in
     let none = sum_none (owned (s.cells x).copy) (came_own (s.cells x).slot) (weigh (brings x) s.net) (holds p x) k.tokens.token here in
-    let fresh = covered_fresh s p v x here (none_marked x s.home.entry p k.tokens.home only.away) (weigh-only back_any (shares x) (shares_only x) s.net (k.tokens.backs ∙ none_back p c x hold)) (weigh-only (datas x) (old_datas v x) (old_datas_only v x) s.net) cover in
+    let fresh =
+    covered_fresh s p v x here (none_marked x s.home.entry p k.tokens.home only.away) (weigh-only back_any (shares x) (shares_only x) s.net (k.tokens.backs ∙ none_back p c x hold)) (weigh-only (datas x) (old_datas v x) (old_datas_only v x) s.net) cover in
     record {
       brought = send-none (old_brings v x) s.net i c ∙ weigh-only (brings x) (old_brings v x) (old_brings_only v x) s.net none.2;
       given = send-none (old_backs v x) s.net i c ∙ weigh-only (gives_back x) (old_backs v x) (old_backs_only v x) s.net (k.tokens.back ∙ only.stays);
@@ -292,10 +353,12 @@ commit_other s p h i c x v a n hold k cover =
       fresh = of_other (λ b. Fresh v x (written s i c a) b) a (s.cells x) x c n (fresh_sent s i c x v a (s.cells x) fresh);
     }
 
-commit_own : (s : State) (p : Place) (h i c v : ℕ) (a : Cell) (hs : List ℕ) (o : ℕ) (d e : Line) → (s.cells c).copy ≡ Held hs (Some o) e → a.copy ≡ Held hs (Some o) d → a.slot ≡ (s.cells c).slot → d.version ≡ v → holds p c ≡ 1 → Facts h s p c → Versions (written s i c a) p v c
+commit_own : (s : State) (p : Place) (h i c v : ℕ) (a : Cell) (hs : List ℕ) (o : ℕ) (d e : Line) → (s.cells c).copy ≡ Held hs (Some o) e
+    → a.copy ≡ Held hs (Some o) d → a.slot ≡ (s.cells c).slot → d.version ≡ v → holds p c ≡ 1 → Facts h s p c → Versions (written s i c a) p v c
 commit_own s p h i c v a hs o d e was is slot_is version hold k =
     let only = only_at p c c hold in
-    let token : 1 + came_own (s.cells c).slot + weigh (brings c) s.net ≡ holds p c = subst (λ y. owned y + came_own (s.cells c).slot + weigh (brings c) s.net ≡ holds p c) was k.tokens.token in
+    let token : 1 + came_own (s.cells c).slot + weigh (brings c) s.net ≡ holds p c =
+    subst (λ y. owned y + came_own (s.cells c).slot + weigh (brings c) s.net ≡ holds p c) was k.tokens.token in
     let none = sum_one (came_own (s.cells c).slot) (weigh (brings c) s.net) (holds p c) token (holds_most p c) in
     let reading = not_reading (s.cells c).copy (s.cells c).slot hs o e was k.requests.reading in
     record {
@@ -309,16 +372,20 @@ commit_own s p h i c v a hs o d e was is slot_is version hold k =
 same_cluster : (x c : ℕ) → (x ≡ c) ⊎ (x ≢ c)
 same_cluster x c = grind (arith, nat_tests)
 
-commit_by : (w : Where) (m : ℕ) (s : State) (p : Place) (i c t x : ℕ) (d : Line) (k : Copy) → (s.cells c).copy ≡ k → IsNext d k → Facts w.home s p x → Facts w.home s p c → Versions s p m c → Cover s p x → Versions (written s i c (record (s.cells c) { copy = commit_copy d k; acks = owe t (s.cells c).acks })) p (raised most m) x
+commit_by : (w : Where) (m : ℕ) (s : State) (p : Place) (i c t x : ℕ) (d : Line) (k : Copy) → (s.cells c).copy ≡ k → IsNext d k → Facts w.home s p x
+    → Facts w.home s p c → Versions s p m c → Cover s p x
+    → Versions (written s i c (record (s.cells c) { copy = commit_copy d k; acks = owe t (s.cells c).acks })) p (raised most m) x
 commit_by w m s p i c t x d NoCopy e next k kc vc cover = absurd next
 commit_by w m s p i c t x d (Held hs None f) e next k kc vc cover = absurd next
 commit_by w m s p i c t x d (Held hs (Some o) f) e next k kc vc cover =
-    let hold : holds p c ≡ 1 = owner_holds (s.cells c).copy hs o f (came_own (s.cells c).slot) (weigh (brings c) s.net) (holds p c) e kc.tokens.token (holds_most p c) in
+    let hold : holds p c ≡ 1 =
+    owner_holds (s.cells c).copy hs o f (came_own (s.cells c).slot) (weigh (brings c) s.net) (holds p c) e kc.tokens.token (holds_most p c) in
     let current = owner_current hs o f (s.cells c).copy m (came_off (s.cells c).slot m) e vc.owner in
     elim (same_cluster x c) [
       | inl q ↦ subst (λ y. Versions (written s i c (record (s.cells c) { copy = Held hs (Some o) d; acks = owe t (s.cells c).acks })) p (raised most m) y) (sym q) (commit_own s p w.home i c (raised most m) (record (s.cells c) { copy = Held hs (Some o) d; acks = owe t (s.cells c).acks }) hs o d f e refl refl (next ∙ ap (raised most) current) hold kc)
       | inr n ↦ commit_other s p w.home i c x (raised most m) (record (s.cells c) { copy = Held hs (Some o) d; acks = owe t (s.cells c).acks }) n hold k cover
     ]
 
-pub commit : (w : Where) (m : ℕ) (s : State) (p : Place) (i c t x : ℕ) (d : Line) → IsNext d (s.cells c).copy → Facts w.home s p x → Facts w.home s p c → Versions s p m c → Cover s p x → Versions (after w s (Acts i c (Commit t d))) p (raised most m) x
+pub commit : (w : Where) (m : ℕ) (s : State) (p : Place) (i c t x : ℕ) (d : Line) → IsNext d (s.cells c).copy → Facts w.home s p x
+    → Facts w.home s p c → Versions s p m c → Cover s p x → Versions (after w s (Acts i c (Commit t d))) p (raised most m) x
 commit w m s p i c t x d next k kc vc cover = commit_by w m s p i c t x d (s.cells c).copy refl next k kc vc cover

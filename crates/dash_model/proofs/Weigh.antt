@@ -10,12 +10,14 @@ unfolding weigh
 weigh-append w [] ys = omega arith
 weigh-append w (x ∷ xs) ys = let ih = weigh-append w xs ys in omega arith
 
-cut_cases : (a b : ℕ) (k : Class) (q p : Packet) (ps : List Packet) (w : Packet → ℕ) (i : Bool) → cond i (Some p) (head a b k ps) ≡ Some q → (head a b k ps ≡ Some q → weigh w (tail a b k ps) + w q ≡ weigh w ps) → weigh w (cond i ps (p ∷ tail a b k ps)) + w q ≡ w p + weigh w ps
+cut_cases : (a b : ℕ) (k : Class) (q p : Packet) (ps : List Packet) (w : Packet → ℕ) (i : Bool) → cond i (Some p) (head a b k ps) ≡ Some q
+    → (head a b k ps ≡ Some q → weigh w (tail a b k ps) + w q ≡ weigh w ps) → weigh w (cond i ps (p ∷ tail a b k ps)) + w q ≡ w p + weigh w ps
 unfolding weigh
 cut_cases a b k q p ps w true e ih = let r : p ≡ q = cc in let s : w p ≡ w q = ap w r in omega arith
 cut_cases a b k q p ps w false e ih = let r = ih e in omega arith
 
-pub cut : (a b : ℕ) (k : Class) (q : Packet) (net : List Packet) → head a b k net ≡ Some q → (w : Packet → ℕ) → weigh w (tail a b k net) + w q ≡ weigh w net
+pub cut : (a b : ℕ) (k : Class) (q : Packet) (net : List Packet) → head a b k net ≡ Some q → (w : Packet → ℕ)
+    → weigh w (tail a b k net) + w q ≡ weigh w net
 unfolding weigh head tail
 cut a b k q [] e w = absurd (cc)
 cut a b k q (p ∷ ps) e w = cut_cases a b k q p ps w (in_lane a b k p) e (λ h. cut a b k q ps h w)
@@ -28,7 +30,8 @@ pub send-one : (w : Packet → ℕ) (net : List Packet) (t a : ℕ) (m : Sent) �
 unfolding send weigh
 send-one w net t a m = let e = weigh-append w net (packet t a m ∷ []) in omega arith
 
-pub send-two : (w : Packet → ℕ) (net : List Packet) (t a : ℕ) (m n : Sent) → weigh w (send net t a (m ∷ n ∷ [])) ≡ weigh w net + w (packet t a m) + w (packet t a n)
+pub send-two : (w : Packet → ℕ) (net : List Packet) (t a : ℕ) (m n : Sent)
+    → weigh w (send net t a (m ∷ n ∷ [])) ≡ weigh w net + w (packet t a m) + w (packet t a n)
 unfolding send weigh
 send-two w net t a m n = let e = weigh-append w net (packet t a m ∷ packet t a n ∷ []) in omega arith
 

@@ -91,7 +91,8 @@ loaded_from w a l (Hit v k) s = s
 loaded_from w a l look s = record s { near = upd s.near (l % w.top.l1) (Some l); reserved = reserving a.op a.word.0 s.reserved }
 
 abbrev pub load_row : Config → Access → Performed → Part → Done
-load_row w a d p = quiet (change a.hart.0 (loaded_from w a (line_at w a.word.0) (look_by (newest_of a.word.0 (p.harts a.hart.0).buffer) a.mask) (record (p.harts a.hart.0) { core = d.next })) p)
+load_row w a d p =
+    quiet (change a.hart.0 (loaded_from w a (line_at w a.word.0) (look_by (newest_of a.word.0 (p.harts a.hart.0).buffer) a.mask) (record (p.harts a.hart.0) { core = d.next })) p)
 
 -- Store: it waits behind the others
 abbrev pub entry_of : Access → Stored
@@ -103,7 +104,8 @@ store_row a d p = quiet (change a.hart.0 (record (p.harts a.hart.0) { core = d.n
 -- Commit: the oldest store leaves the buffer, and becomes the line's next version
 abbrev pub commit_row : Config → ℕ → ℕ → List Stored → Part → Done
 commit_row w h l [] p = quiet p
-commit_row w h l (e ∷ es) p = acts w l (Commit h (written_in w e.word.0 e.mask e.value (content (p.cells l).copy))) (change h (record (p.harts h) { buffer = es }) p)
+commit_row w h l (e ∷ es) p =
+    acts w l (Commit h (written_in w e.word.0 e.mask e.value (content (p.cells l).copy))) (change h (record (p.harts h) { buffer = es }) p)
 
 -- Rmw: what it writes becomes the line's next version, and an SC clears the reservation
 abbrev pub rmw_reserved : Op → Option ℕ → Option ℕ
@@ -111,7 +113,8 @@ rmw_reserved op.Cond r = None
 rmw_reserved kind r = r
 
 abbrev pub rmw_row : Config → Access → ℕ → Performed → Part → Done
-rmw_row w a l d p = acts w l (Commit a.hart.0 (written_in w a.word.0 a.mask (unwrap_or a.written 0) (content (p.cells l).copy))) (change a.hart.0 (record (p.harts a.hart.0) { core = d.next; reserved = rmw_reserved a.op (p.harts a.hart.0).reserved }) p)
+rmw_row w a l d p =
+    acts w l (Commit a.hart.0 (written_in w a.word.0 a.mask (unwrap_or a.written 0) (content (p.cells l).copy))) (change a.hart.0 (record (p.harts a.hart.0) { core = d.next; reserved = rmw_reserved a.op (p.harts a.hart.0).reserved }) p)
 
 -- ScFail: the reservation is cleared
 abbrev pub sc_fail_row : Access → Performed → Part → Done

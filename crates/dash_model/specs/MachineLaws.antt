@@ -60,7 +60,8 @@ StampsRise = (w : Config) (log : List Event) (c : ℕ) → IsRun w log → Stamp
 
 -- a case applies wherever a message of a line of memory can be taken
 abbrev pub CasesApply : Type 0
-CasesApply = (w : Config) (log : List Event) (m : Machine) (g : Step) (f : ClusterId) (x : Msg) (l : ℕ) → l < lines w → is_of l x ≡ true → Reaches w log m → CanHappen w m g → g.event.kind ≡ Take f x → applies w g.event.cluster.0 x (m.parts g.event.cluster.0) ≡ true
+CasesApply =
+    (w : Config) (log : List Event) (m : Machine) (g : Step) (f : ClusterId) (x : Msg) (l : ℕ) → l < lines w → is_of l x ≡ true → Reaches w log m → CanHappen w m g → g.event.kind ≡ Take f x → applies w g.event.cluster.0 x (m.parts g.event.cluster.0) ≡ true
 
 -- one step more at the end of a local run
 pub record Grows (w : Config) (c : ℕ) (p : Part) (gs : List Step) (g : Step) : Type 0 where
