@@ -1,5 +1,5 @@
 -- What a step changes, and how stamps rise.
-use Rattle.std.proofs.Common.{◌≡◌, ◌≢◌, ◌⊎◌, ℕ, ◌<◌, ◌≤◌, ◌==◌, true, false, cond, max, Some, List, [], ◌∷◌, map, refl, sym, ap, ◌∙◌, subst, inl, inr, arith}
+use Rattle.std.proofs.Common.{◌≡◌, ◌≢◌, ◌⊎◌, ℕ, ◌<◌, ◌≤◌, ◌==◌, true, false, cond, max, Some, List, [], ◌∷◌, map, refl, ap, ◌∙◌, subst, inl, inr, arith}
 use Rattle.std.proofs.lemmas.Bool.Decides.{nat_tests}
 use Rattle.dash_msg.specs.Classes.{class_of}
 use Rattle.dash_msg.specs.declared.classes.Class.{Class}
@@ -16,20 +16,17 @@ use Rattle.dash_model.specs.Net.{packet, in_lane, lane, head}
 use Rattle.dash_model.specs.Part.{Part}
 use Rattle.dash_model.specs.Row.{row}
 use Rattle.dash_model.specs.Ranges.{applies}
-use Rattle.dash_model.specs.Machine.{Machine, Step, event_of, taken, AtHead, less, next_stamp, part_after, CanHappen, after, opening, AreSteps, IsRun, Reaches}
-use Rattle.dash_model.specs.LocalRun.{events_of}
+use Rattle.dash_model.specs.Machine.{Machine, Step, stamp_of, taken, AtHead, less, part_after, CanHappen, Reaches}
+use Rattle.dash_model.specs.LocalRun.{IsLocalRun}
 use Rattle.dash_model.specs.OnLine.{is_of}
-use Rattle.dash_model.specs.MachineLaws.{TakesHead, ChangesOnePart, StampsFrom}
+use Rattle.dash_model.specs.MachineLaws.{TakesHead, ChangesOnePart, IsAbove, StampsFrom}
 use Rattle.dash_model.proofs.Lanes.{lane-send}
-use Rattle.dash_model.proofs.Along.{along, same_or_not, on-head}
+use Rattle.dash_model.proofs.Along.{along, on-head}
 use Rattle.dash_model.proofs.Taken.{case_applies}
 use Rattle.dash_model.proofs.Reached.{each_reached}
 
 part_other : (m : Machine) (k c : ℕ) (q : Part) → c ≢ k → cond (c == k) q (m.parts c) ≡ m.parts c
 part_other m k c q n = let e : (c == k) ≡ false = grind (arith, nat_tests) in ap (λ t. cond t q (m.parts c)) e
-
-part_own : (m : Machine) (k : ℕ) (q : Part) → cond (k == k) q (m.parts k) ≡ q
-part_own m k q = let e : (k == k) ≡ true = grind (arith, nat_tests) in ap (λ t. cond t q (m.parts k)) e
 
 off_source : (a b : ℕ) (k : Class) (c t : ℕ) (ss : List Sent) → a ≢ c → lane a b k (map (packet t c) ss) ≡ []
 unfolding lane
@@ -59,39 +56,17 @@ changes w m g h = record {
 max_left : (a b : ℕ) → a ≤ max a b
 max_left a b = grind arith
 
-above_max : (last u m t : ℕ) → last ≤ m → t ≡ raised most m → (last < t) ⊎ ((most ≤ last) × (last ≤ t))
-above_max last u m t l e = grind (arith, nat_tests)
+max_right : (a b : ℕ) → b ≤ max a b
+max_right a b = grind arith
 
-above : (last u t : ℕ) → t ≡ next_stamp last u → (last < t) ⊎ ((most ≤ last) × (last ≤ t))
-above last u t e = above_max last u (max last u) t (max_left last u) e
+above : (before m t : ℕ) → before ≤ m → t ≡ raised most m → IsAbove t before
+above before m t l e = grind (arith, nat_tests)
 
-stamps_own : (w : Config) (m : Machine) (g : Step) (gs : List Step) → AreSteps w m (g ∷ gs)
-    → StampsFrom ((after w m g).parts g.event.cluster.0).last (events_of g.event.cluster.0 (map event_of gs))
-    → StampsFrom (m.parts g.event.cluster.0).last (cond (g.event.cluster.0 == g.event.cluster.0) (g.event ∷ events_of g.event.cluster.0 (map event_of gs)) (events_of g.event.cluster.0 (map event_of gs)))
-stamps_own w m g gs s ih =
-    let e : (g.event.cluster.0 == g.event.cluster.0) ≡ true = grind (arith, nat_tests) in
-    let last : ((after w m g).parts g.event.cluster.0).last ≡ g.event.stamp =
-    ap (λ q. q.last) (part_own m g.event.cluster.0 (part_after w g.event.cluster.0 g (m.parts g.event.cluster.0))) in
-    subst (λ b. StampsFrom (m.parts g.event.cluster.0).last (cond b (g.event ∷ events_of g.event.cluster.0 (map event_of gs)) (events_of g.event.cluster.0 (map event_of gs)))) (sym e) (above (m.parts g.event.cluster.0).last _ g.event.stamp s.0.steps.stamp, subst (λ n. StampsFrom n (events_of g.event.cluster.0 (map event_of gs))) last ih)
-
-stamps_other : (w : Config) (c : ℕ) (m : Machine) (g : Step) (gs : List Step) → g.event.cluster.0 ≢ c
-    → StampsFrom ((after w m g).parts c).last (events_of c (map event_of gs))
-    → StampsFrom (m.parts c).last (cond (g.event.cluster.0 == c) (g.event ∷ events_of c (map event_of gs)) (events_of c (map event_of gs)))
-stamps_other w c m g gs n ih =
-    let e : (g.event.cluster.0 == c) ≡ false = grind (arith, nat_tests) in
-    let same = part_other m g.event.cluster.0 c (part_after w g.event.cluster.0 g (m.parts g.event.cluster.0)) (λ z. n (sym z)) in
-    subst (λ b. StampsFrom (m.parts c).last (cond b (g.event ∷ events_of c (map event_of gs)) (events_of c (map event_of gs)))) (sym e) (subst (λ q. StampsFrom q.last (events_of c (map event_of gs))) same ih)
-
-stamps_from : (w : Config) (c : ℕ) (m : Machine) (gs : List Step) → AreSteps w m gs → StampsFrom (m.parts c).last (events_of c (map event_of gs))
-unfolding events_of
-stamps_from w c m [] s = tt
-stamps_from w c m (g ∷ gs) s = elim (same_or_not g.event.cluster.0 c) [
-  | inl e ↦ subst (λ y. StampsFrom (m.parts y).last (cond (g.event.cluster.0 == y) (g.event ∷ events_of y (map event_of gs)) (events_of y (map event_of gs)))) e (stamps_own w m g gs s (stamps_from w g.event.cluster.0 (after w m g) gs s.1))
-  | inr n ↦ stamps_other w c m g gs n (stamps_from w c (after w m g) gs s.1)
-]
-
-pub stamps_rise : (w : Config) (log : List Event) (c : ℕ) → IsRun w log → StampsFrom 0 (events_of c log)
-stamps_rise w log c r = subst (λ es. StampsFrom 0 (events_of c es)) r.events (stamps_from w c (opening w) r.steps r.happen)
+pub stamps_rise : (w : Config) (c : ℕ) (p : Part) (gs : List Step) → IsLocalRun w c p gs → StampsFrom c p.last gs
+stamps_rise w c p [] r = tt
+stamps_rise w c p (g ∷ gs) r =
+    let u = stamp_of (taken c g.stamp g.event.kind) in
+    (above p.last (max p.last u) g.event.stamp (max_left p.last u) r.0.stamp, above u (max p.last u) g.event.stamp (max_right p.last u) r.0.stamp, stamps_rise w c (part_after w c g p) gs r.1)
 
 -- cases apply
 pub cases_apply : (w : Config) (log : List Event) (m : Machine) (g : Step) (f : ClusterId) (x : Msg) (l : ℕ) → l < lines w → is_of l x ≡ true

@@ -1,5 +1,5 @@
 -- A run of nine events: a load of a line that the cluster has not got, and a lock word.
-use Rattle.std.proofs.Common.{◌≡◌, ℕ, ◌==◌, Bool, true, false, cond, [], ◌∷◌, map, refl, arith, pos}
+use Rattle.std.proofs.Common.{inl, ◌≡◌, ℕ, ◌==◌, Bool, true, false, cond, [], ◌∷◌, map, refl, arith, pos}
 use Rattle.dash_base.specs.declared.topology.Topology.{Topology}
 use Rattle.dash_base.specs.declared.instr.Instr.{Instr}
 use Rattle.dash_base.specs.declared.instr.Instr.TheVariants as instr
@@ -28,7 +28,7 @@ use Rattle.dash_model.specs.Row.{row}
 use Rattle.dash_model.specs.Net.{head, tail, send}
 use Rattle.dash_model.specs.Maps.{member, total}
 use Rattle.write_buffer.specs.Look.{newest_of}
-use Rattle.dash_model.specs.Machine.{Machine, Step, event_of, opening, CanHappen, after}
+use Rattle.dash_model.specs.Machine.{IsRising, Machine, Step, event_of, opening, CanHappen, after}
 
 abbrev top : Topology
 top = record {
@@ -230,10 +230,18 @@ h9 : CanHappen config m8 s9
 unfolding Guard row head tail send newest_of word_among byte_among total merged
 h9 = record { cluster = omega arith; head = refl; steps = record { cluster = refl; stamp = refl; guard = does_take } }
 
+rises : IsRising (map event_of (s1 ∷ s2 ∷ s3 ∷ s4 ∷ s5 ∷ s6 ∷ s7 ∷ s8 ∷ s9 ∷ []))
+rises = ((inl (omega arith), (inl (omega arith), (inl (omega arith), (inl (omega arith), (inl (omega arith), (inl (omega arith), (inl (omega arith), (inl (omega arith), tt)))))))), ((inl (omega arith), (inl (omega arith), (inl (omega arith), (inl (omega arith), (inl (omega arith), (inl (omega arith), (inl (omega arith), tt))))))), ((inl (omega arith), (inl (omega arith), (inl (omega arith), (inl (omega arith), (inl (omega arith), (inl (omega arith), tt)))))), ((inl (omega arith), (inl (omega arith), (inl (omega arith), (inl (omega arith), (inl (omega arith), tt))))), ((inl (omega arith), (inl (omega arith), (inl (omega arith), (inl (omega arith), tt)))), ((inl (omega arith), (inl (omega arith), (inl (omega arith), tt))), ((inl (omega arith), (inl (omega arith), tt)), ((inl (omega arith), tt), (tt, tt)))))))))
+
 pub example_runs : ExampleRuns
 example_runs = record {
   config = config;
   log = map event_of (s1 ∷ s2 ∷ s3 ∷ s4 ∷ s5 ∷ s6 ∷ s7 ∷ s8 ∷ s9 ∷ []);
   kinds = refl;
-  run = record { steps = s1 ∷ s2 ∷ s3 ∷ s4 ∷ s5 ∷ s6 ∷ s7 ∷ s8 ∷ s9 ∷ []; events = refl; happen = (h1, (h2, (h3, (h4, (h5, (h6, (h7, (h8, (h9, tt))))))))) };
+  run = record {
+    steps = s1 ∷ s2 ∷ s3 ∷ s4 ∷ s5 ∷ s6 ∷ s7 ∷ s8 ∷ s9 ∷ [];
+    events = refl;
+    happen = (h1, (h2, (h3, (h4, (h5, (h6, (h7, (h8, (h9, tt)))))))));
+    rising = rises;
+  };
 }

@@ -5,8 +5,8 @@ use Rattle.dash_event.specs.declared.event.Event.{Event}
 use Rattle.dash_model.specs.Config.{Config}
 use Rattle.dash_model.specs.Net.{lane}
 use Rattle.dash_model.specs.Part.{opening_part}
-use Rattle.dash_model.specs.Machine.{Step, by, event_of, opening}
-use Rattle.dash_model.specs.LocalRun.{IsLocalRun, part_at, sent_in, received_in, LanesMeet, of_cluster, IsRising, Rose, IsMergeOf, IsMergedRun}
+use Rattle.dash_model.specs.Machine.{IsRising, Step, by, event_of, opening}
+use Rattle.dash_model.specs.LocalRun.{IsLocalRun, part_at, sent_in, received_in, LanesMeet, of_cluster, Rose, IsMergeOf, IsMergedRun}
 use Rattle.dash_model.proofs.Taking.{of_own}
 use Rattle.dash_model.proofs.Ready.{AllBelow, Ready, ready_run, ready_reaches}
 use Rattle.dash_model.proofs.Lifted.{lifted}
@@ -60,9 +60,12 @@ merge_is_run w runs es local l rose i =
     let o = subst IsRising (sym f.events) i.rising in
     let k = ready_reaches w (opening w) f.steps l.left r o h in
     record {
-      steps = f.steps;
-      events = f.events;
-      happen = ready_run w (opening w) f.steps l.left r o h (below_of w.top.clusters f.steps (λ c n. f.parts c ∙ none_mapped (runs c) (i.none c n)));
+      run = record {
+        steps = f.steps;
+        events = f.events;
+        happen = ready_run w (opening w) f.steps l.left r o h (below_of w.top.clusters f.steps (λ c n. f.parts c ∙ none_mapped (runs c) (i.none c n)));
+        rising = i.rising;
+      };
       parts = λ c. k.parts c ∙ ap (part_at w c (opening_part w)) (f.parts c);
       lanes = k.lanes;
     }

@@ -8,8 +8,8 @@ use Rattle.dash_model.specs.Maps.{most}
 use Rattle.dash_model.specs.Config.{Config}
 use Rattle.dash_model.specs.Net.{Packet, same_class, in_lane, lane, first}
 use Rattle.dash_model.specs.Row.{row}
-use Rattle.dash_model.specs.Machine.{Machine, Step, by, event_of, AtHead, less, next_stamp, stamp_of, part_after, sends, Steps, after, AreSteps, state_after}
-use Rattle.dash_model.specs.LocalRun.{IsLocalRun, part_at, sent_in, takes, received_in, of_cluster, PrecedesAll, IsRising, Rose}
+use Rattle.dash_model.specs.Machine.{PrecedesAll, IsRising, Machine, Step, by, event_of, AtHead, less, next_stamp, stamp_of, part_after, sends, Steps, after, AreSteps, state_after}
+use Rattle.dash_model.specs.LocalRun.{IsLocalRun, part_at, sent_in, takes, received_in, of_cluster, Rose}
 use Rattle.dash_model.proofs.Along.{same_or_not}
 use Rattle.dash_model.proofs.Lanes.{head-lane, lane-append, lane-send}
 use Rattle.dash_model.proofs.Taking.{Takes, takes_view, lane-taken, off_source, off_target, NoneBelow, none_in, none_lane, not_before_of, not_before_all, of_own, of_other, parts_own, parts_other, Nothing, One}

@@ -12,8 +12,8 @@ use Rattle.dash_model.specs.Config.{Config}
 use Rattle.dash_model.specs.Net.{Packet, same_class, in_lane, packet, parcel, lane, head, tail}
 use Rattle.dash_model.specs.Part.{Part}
 use Rattle.dash_model.specs.Row.{row}
-use Rattle.dash_model.specs.Machine.{Machine, Step, by, event_of, taken, AtHead, less, part_after, sends, after}
-use Rattle.dash_model.specs.LocalRun.{sent_in, of_cluster, PrecedesAll}
+use Rattle.dash_model.specs.Machine.{PrecedesAll, Machine, Step, by, event_of, taken, AtHead, less, part_after, sends, after}
+use Rattle.dash_model.specs.LocalRun.{sent_in, of_cluster}
 
 -- lanes of a list
 pub lane_one : (a b : ℕ) (k : Class) (q : Packet) → in_lane a b k q ≡ false → lane a b k (q ∷ []) ≡ []

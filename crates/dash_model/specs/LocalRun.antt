@@ -1,12 +1,12 @@
 -- Runs of one cluster by itself, the lanes between such runs, and their merge.
-use Rattle.std.specs.Prelude.{◌≡◌, ◌⊎◌, ℕ, ◌<◌, ◌≤◌, ◌==◌, cond, List, [], ◌∷◌, ◌++◌, map}
+use Rattle.std.specs.Prelude.{◌≡◌, ℕ, ◌<◌, ◌≤◌, ◌==◌, cond, List, [], ◌∷◌, ◌++◌}
 use Rattle.dash_msg.specs.declared.classes.Class.{Class}
 use Rattle.dash_event.specs.declared.event.Event.{Event}
 use Rattle.dash_model.specs.Maps.{most}
 use Rattle.dash_model.specs.Config.{Config}
 use Rattle.dash_model.specs.Net.{Packet, lane}
 use Rattle.dash_model.specs.Part.{Part, opening_part}
-use Rattle.dash_model.specs.Machine.{Step, by, event_of, taken, part_after, sends, Steps, opening, AreSteps, state_after}
+use Rattle.dash_model.specs.Machine.{Step, by, taken, part_after, sends, Steps, opening, state_after, IsRun, IsRising}
 
 -- steps of cluster c one after another from a part, whatever its lanes bring; and the part that they lead to
 abbrev pub IsLocalRun : Config → ℕ → Part → List Step → Type 0
@@ -49,18 +49,6 @@ unfoldable pub events_of : ℕ → List Event → List Event
 events_of c [] = []
 events_of c (e ∷ es) = cond (e.cluster.0 == c) (e ∷ events_of c es) (events_of c es)
 
--- the order of a merged log: by stamp, then by cluster
-abbrev pub Precedes : Event → Event → Type 0
-Precedes e f = (e.stamp < f.stamp) ⊎ ((e.stamp ≡ f.stamp) × (e.cluster.0 < f.cluster.0))
-
-abbrev pub PrecedesAll : Event → List Event → Type 0
-PrecedesAll e [] = Unit {0}
-PrecedesAll e (f ∷ fs) = Precedes e f × PrecedesAll e fs
-
-abbrev pub IsRising : List Event → Type 0
-IsRising [] = Unit {0}
-IsRising (e ∷ es) = PrecedesAll e es × IsRising es
-
 -- the merge of the logs of n clusters: all their events, each cluster's in its order, rising
 pub record IsMergeOf (n : ℕ) (logs : ℕ → List Event) (es : List Event) : Type 0 where
   pub parts : (c : ℕ) → events_of c es ≡ logs c
@@ -69,8 +57,6 @@ pub record IsMergeOf (n : ℕ) (logs : ℕ → List Event) (es : List Event) : T
 
 -- the merge is a run, each cluster's part is as its own run left it, and each lane has the rest
 pub record IsMergedRun (w : Config) (runs : ℕ → List Step) (left : ℕ → ℕ → Class → List Packet) (es : List Event) : Type 0 where
-  pub steps : List Step
-  pub events : map event_of steps ≡ es
-  pub happen : AreSteps w (opening w) steps
-  pub parts : (c : ℕ) → (state_after w (opening w) steps).parts c ≡ part_at w c (opening_part w) (runs c)
-  pub lanes : (a b : ℕ) (k : Class) → lane a b k (state_after w (opening w) steps).net ≡ left a b k
+  pub run : IsRun w es
+  pub parts : (c : ℕ) → (state_after w (opening w) run.steps).parts c ≡ part_at w c (opening_part w) (runs c)
+  pub lanes : (a b : ℕ) (k : Class) → lane a b k (state_after w (opening w) run.steps).net ≡ left a b k

@@ -1,5 +1,5 @@
 -- The machine: the parts of its clusters, what is on its way, and the console. Its steps and its runs.
-use Rattle.std.specs.Prelude.{◌≡◌, ℕ, ◌<◌, max, Some, List, [], ◌∷◌, ◌++◌, map}
+use Rattle.std.specs.Prelude.{◌≡◌, ◌⊎◌, ℕ, ◌<◌, max, Some, List, [], ◌∷◌, ◌++◌, map}
 use Rattle.dash_msg.specs.Classes.{class_of}
 use Rattle.dash_msg.specs.declared.msg.Msg.TheVariants.{Unlock}
 use Rattle.dash_event.specs.declared.event.Event.{Event}
@@ -99,11 +99,24 @@ abbrev pub state_after : Config → Machine → List Step → Machine
 state_after w m [] = m
 state_after w m (g ∷ gs) = state_after w (after w m g) gs
 
--- a log is a run of the machine: its events are those of steps from the opening state
+-- the order of a log: by stamp, then by cluster
+abbrev pub Precedes : Event → Event → Type 0
+Precedes e f = (e.stamp < f.stamp) ⊎ ((e.stamp ≡ f.stamp) × (e.cluster.0 < f.cluster.0))
+
+abbrev pub PrecedesAll : Event → List Event → Type 0
+PrecedesAll e [] = Unit {0}
+PrecedesAll e (f ∷ fs) = Precedes e f × PrecedesAll e fs
+
+abbrev pub IsRising : List Event → Type 0
+IsRising [] = Unit {0}
+IsRising (e ∷ es) = PrecedesAll e es × IsRising es
+
+-- a log is a run of the machine: it rises, and its events are those of steps from the opening state
 pub record IsRun (w : Config) (log : List Event) : Type 0 where
   pub steps : List Step
   pub events : map event_of steps ≡ log
   pub happen : AreSteps w (opening w) steps
+  pub rising : IsRising log
 
 -- a run of this log leads to this state
 pub record Reaches (w : Config) (log : List Event) (m : Machine) : Type 0 where

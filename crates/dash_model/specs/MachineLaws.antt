@@ -12,8 +12,8 @@ use Rattle.dash_model.specs.Config.{Config, lines}
 use Rattle.dash_model.specs.Net.{Packet, packet, lane, head, tail, first, rest, send}
 use Rattle.dash_model.specs.Part.{Part, opening_part}
 use Rattle.dash_model.specs.Ranges.{applies}
-use Rattle.dash_model.specs.Machine.{Machine, Step, Steps, event_of, part_after, taken, less, sends, puts, CanHappen, after, IsRun, Reaches}
-use Rattle.dash_model.specs.LocalRun.{events_of, IsLocalRun, part_at, sent_in, takes, received_in, LanesMeet, Rose, IsMergeOf, IsMergedRun}
+use Rattle.dash_model.specs.Machine.{Machine, Step, stamp_of, Steps, event_of, part_after, taken, less, sends, puts, CanHappen, after, Reaches}
+use Rattle.dash_model.specs.LocalRun.{IsLocalRun, part_at, sent_in, takes, received_in, LanesMeet, Rose, IsMergeOf, IsMergedRun}
 use Rattle.dash_model.specs.OnLine.{is_of}
 
 -- two steps of one event make one machine of a machine, and two runs of one log reach one state
@@ -50,13 +50,18 @@ pub record ChangesOnePart (w : Config) (m : Machine) (g : Step) : Type 0 where
 abbrev pub StepsChangeOnePart : Type 0
 StepsChangeOnePart = (w : Config) (m : Machine) (g : Step) → CanHappen w m g → ChangesOnePart w m g
 
--- stamps of a list of events rise; once the greatest stamp is reached, they never fall
-abbrev pub StampsFrom : ℕ → List Event → Type 0
-StampsFrom last [] = Unit {0}
-StampsFrom last (e ∷ es) = ((last < e.stamp) ⊎ ((most ≤ last) × (last ≤ e.stamp))) × StampsFrom e.stamp es
+-- one stamp is above another, or both are at the greatest or past it and the one does not fall below the other
+abbrev pub IsAbove : ℕ → ℕ → Type 0
+IsAbove stamp before = (before < stamp) ⊎ ((most ≤ before) × (before ≤ stamp))
+
+-- each step's stamp is above that of the step before it, and of the message that it takes
+abbrev pub StampsFrom : ℕ → ℕ → List Step → Type 0
+StampsFrom c last [] = Unit {0}
+StampsFrom c last (g ∷ gs) =
+    IsAbove g.event.stamp last × IsAbove g.event.stamp (stamp_of (taken c g.stamp g.event.kind)) × StampsFrom c g.event.stamp gs
 
 abbrev pub StampsRise : Type 0
-StampsRise = (w : Config) (log : List Event) (c : ℕ) → IsRun w log → StampsFrom 0 (events_of c log)
+StampsRise = (w : Config) (c : ℕ) (p : Part) (gs : List Step) → IsLocalRun w c p gs → StampsFrom c p.last gs
 
 -- a case applies wherever a message of a line of memory can be taken
 abbrev pub CasesApply : Type 0

@@ -32,7 +32,8 @@ pub fn steps_change_one_part()
     ensures { StepsChangeOnePart }
 {}
 
-/// In every run the stamps of a cluster's events rise, up to the greatest stamp.
+/// Where a cluster runs by itself, each event's stamp is above that of the event before it and that of
+/// the message that it takes. Once the greatest stamp is reached, stamps never fall.
 pub fn stamps_rise()
     ensures { StampsRise }
 {}
