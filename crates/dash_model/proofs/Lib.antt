@@ -25,3 +25,4 @@ pub mod Ready
 pub mod Lifted
 pub mod Merge
 pub mod Local
+pub mod Prefix

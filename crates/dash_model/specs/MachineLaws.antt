@@ -12,7 +12,7 @@ use Rattle.dash_model.specs.Config.{Config, lines}
 use Rattle.dash_model.specs.Net.{Packet, packet, lane, head, tail, first, rest, send}
 use Rattle.dash_model.specs.Part.{Part, opening_part}
 use Rattle.dash_model.specs.Ranges.{applies}
-use Rattle.dash_model.specs.Machine.{Machine, Step, stamp_of, Steps, event_of, part_after, taken, less, sends, puts, CanHappen, after, Reaches}
+use Rattle.dash_model.specs.Machine.{Machine, Step, stamp_of, Steps, event_of, part_after, taken, less, sends, puts, CanHappen, after, IsRun, Reaches}
 use Rattle.dash_model.specs.LocalRun.{IsLocalRun, part_at, sent_in, takes, received_in, LanesMeet, Rose, IsMergeOf, IsMergedRun}
 use Rattle.dash_model.specs.OnLine.{is_of}
 
@@ -83,3 +83,15 @@ abbrev pub MergesAreRuns : Type 0
 MergesAreRuns = (w : Config) (runs : ℕ → List Step) (es : List Event)
     → ((c : ℕ) → IsLocalRun w c (opening_part w) (runs c)) → (l : LanesMeet w runs) → ((c : ℕ) → Rose (runs c))
     → IsMergeOf w.top.clusters (λ c. map event_of (runs c)) es → IsMergedRun w runs l.left es
+
+-- an event happens in a state that the events before it lead to
+pub record HappensAfter (w : Config) (before : List Event) (e : Event) : Type 0 where
+  pub state : Machine
+  pub step : Step
+  pub is : step.event ≡ e
+  pub reached : Reaches w before state
+  pub can : CanHappen w state step
+
+-- each event of a run does; so the events before it are a run too
+abbrev pub EventsHappen : Type 0
+EventsHappen = (w : Config) (before rest : List Event) (e : Event) → IsRun w (before ++ (e ∷ rest)) → HappensAfter w before e

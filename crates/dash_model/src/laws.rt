@@ -1,7 +1,7 @@
 //! Laws of the definitions. The functions do nothing: their contracts are the laws.
 ghost use Rattle.dash_model.specs.Example.{ExampleRuns};
 ghost use Rattle.dash_model.specs.LineFacts.{RunsKeepLines};
-ghost use Rattle.dash_model.specs.MachineLaws.{EventsFixEffects, LanesAreQueues, StepsChangeOnePart, StampsRise, CasesApply, LocalRunsGrow, MergesAreRuns};
+ghost use Rattle.dash_model.specs.MachineLaws.{EventsFixEffects, LanesAreQueues, StepsChangeOnePart, StampsRise, CasesApply, EventsHappen, LocalRunsGrow, MergesAreRuns};
 
 /// Every run keeps the facts of each line of memory: one token, which is current; an entry that knows
 /// where it is; one answer to each request; exact counts of acknowledgements; an invalidation on its
@@ -54,4 +54,9 @@ pub fn local_runs_grow()
 /// run did, and each lane with what was not taken.
 pub fn merges_are_runs()
     ensures { MergesAreRuns }
+{}
+
+/// Each event of a run happens in the state that the events before it lead to; so those are a run too.
+pub fn events_happen()
+    ensures { EventsHappen }
 {}
