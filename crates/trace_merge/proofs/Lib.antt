@@ -21,3 +21,6 @@ pub mod MessageCode
 pub mod MessageEvents
 pub mod Message
 pub mod Recorded
+pub mod MessageRuns
+pub mod MessageSteps
+pub mod MessageLabelled

@@ -28,22 +28,22 @@ use Rattle.trace_merge.specs.WrittenLogs.{message_image, message_store, flag_rel
 use Rattle.trace_merge.proofs.Written.{outside_locks, access_clear, hart_by}
 
 -- its instructions
-pub skip : Instr
+unfoldable pub skip : Instr
 skip = instr.Branch (record { op = Bne; rs1 = 10; rs2 = 0; offset = pos 12; rs1_in_range = omega arith; rs2_in_range = omega arith; offset_in_range = record { fits = record { low = omega arith; high = omega arith }; even = refl } })
 
-pub write : Instr
+unfoldable pub write : Instr
 write = instr.Store (record { op = Sw; rs1 = 0; rs2 = 11; offset = pos 64; rs1_in_range = omega arith; rs2_in_range = omega arith; offset_in_range = record { low = omega arith; high = omega arith } })
 
-pub release : Instr
+unfoldable pub release : Instr
 release = instr.Amo (record { op = Swap; labels = release_label; rd = 0; rs1 = 0; rs2 = 11; rd_in_range = omega arith; rs1_in_range = omega arith; rs2_in_range = omega arith; lr_has_no_source = λ e. absurd cc })
 
-pub acquire : Instr
+unfoldable pub acquire : Instr
 acquire = instr.Amo (record { op = Lr; labels = acquire_label; rd = 12; rs1 = 0; rs2 = 0; rd_in_range = omega arith; rs1_in_range = omega arith; rs2_in_range = omega arith; lr_has_no_source = λ e. refl })
 
-pub again : Instr
+unfoldable pub again : Instr
 again = instr.Branch (record { op = Beq; rs1 = 12; rs2 = 0; offset = negsuc 3; rs1_in_range = omega arith; rs2_in_range = omega arith; offset_in_range = record { fits = record { low = omega arith; high = omega arith }; even = refl } })
 
-pub read : Instr
+unfoldable pub read : Instr
 read = instr.Load (record { op = Lw; rd = 13; rs1 = 0; offset = pos 64; rd_in_range = omega arith; rs1_in_range = omega arith; offset_in_range = record { low = omega arith; high = omega arith } })
 
 abbrev hart_0 : HartId

@@ -3,6 +3,7 @@ use Rattle.std.specs.Prelude.{ℕ, List, [], ◌∷◌, length, Some, None}
 use Rattle.dash_base.specs.Topology.{IsSimple}
 use Rattle.dash_base.specs.declared.topology.Topology.{Topology}
 use Rattle.elf_load.specs.Image.{ImageView}
+use Rattle.dash_event.specs.Records.{records_of}
 use Rattle.dash_event.specs.declared.access.Access.{Access}
 use Rattle.dash_event.specs.declared.access.Op.TheVariants as op
 use Rattle.dash_event.specs.declared.access.Seen.TheVariants.{Line, Own, Nothing}
@@ -10,6 +11,8 @@ use Rattle.dash_event.specs.declared.event.Event.{Event}
 use Rattle.dash_event.specs.declared.event.Kind.{Kind}
 use Rattle.dash_event.specs.declared.event.Kind.TheVariants.{Alu, Load, Store, Commit, Rmw}
 use Rattle.flat_model.specs.Offered.{no_label, acquire_label, release_label}
+use Rattle.flat_model.specs.Run.{IsSequentialRun}
+use Rattle.flat_model.specs.Race.{IsProperlyLabelled}
 use Rattle.dash_model.specs.Followed.{IsFollowed}
 
 -- an image of one segment at 4096, which may be read and executed
@@ -87,3 +90,11 @@ message_log =
 -- on a machine of two clusters of one hart it is followed
 abbrev pub MessageIsFollowed : Type 0
 MessageIsFollowed = (t : Topology) → IsSimple 2 1 8 t → IsFollowed message_image t message_log
+
+-- there the image is properly labelled
+abbrev pub MessageIsProperlyLabelled : Type 0
+MessageIsProperlyLabelled = (t : Topology) → IsSimple 2 1 8 t → IsProperlyLabelled message_image t
+
+-- so the records of the log are a sequential run
+abbrev pub MessageIsInOrder : Type 0
+MessageIsInOrder = (t : Topology) → IsSimple 2 1 8 t → IsSequentialRun message_image t (records_of message_log)

@@ -1,6 +1,6 @@
 //! Laws of logs. The functions do nothing: their contracts are the laws.
 ghost use Rattle.trace_merge.specs.OrderLaws.{CommitOrder, OneHartIsInOrder, AccessesAreRecorded, ConsoleIsRecorded};
-ghost use Rattle.trace_merge.specs.WrittenLogs.{ForwardingIsFollowed, MessageIsFollowed};
+ghost use Rattle.trace_merge.specs.WrittenLogs.{ForwardingIsFollowed, MessageIsFollowed, MessageIsProperlyLabelled, MessageIsInOrder};
 
 /// Where no sequential run of an image has a race, the records of every followed log, each at its order
 /// point, are a sequential run within the budgets.
@@ -33,4 +33,14 @@ pub fn forwarding_is_followed()
 /// release, and another reads the flag by an acquire and then the message.
 pub fn message_is_followed()
     ensures { MessageIsFollowed }
+{}
+
+/// The image of that log is properly labelled on a machine of two harts.
+pub fn message_is_properly_labelled()
+    ensures { MessageIsProperlyLabelled }
+{}
+
+/// So the records of that log are a sequential run, with no premise on labels.
+pub fn message_is_in_order()
+    ensures { MessageIsInOrder }
 {}
