@@ -18,9 +18,10 @@ pub mod Written
 pub mod ForwardingCode
 pub mod Forwarding
 pub mod MessageCode
+pub mod MessageReplay
 pub mod MessageEvents
 pub mod Message
-pub mod Recorded
+pub mod Consoles
 pub mod MessageRuns
 pub mod MessageSteps
 pub mod MessageLabelled

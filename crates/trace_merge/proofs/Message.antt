@@ -18,7 +18,7 @@ use Rattle.dash_model.specs.Release.{IsReleaseEvent}
 use Rattle.dash_model.specs.Followed.{IsFollowed}
 use Rattle.trace_merge.specs.WrittenLogs.{message_image, message_store, flag_release, flag_acquire, message_load, message_log}
 use Rattle.trace_merge.proofs.Written.{commits_in, serves_in, releases_in, accesses_in_event}
-use Rattle.trace_merge.proofs.MessageCode.{harts, replay}
+use Rattle.trace_merge.proofs.MessageReplay.{harts, replay}
 use Rattle.trace_merge.proofs.MessageEvents.{hart_0, line_0, line_4, IsTheStore, store_is, commit_is, rmw_is, IsACommit, commit_event_is, IsAShown, IsTheShown, shown_is, no_own, no_grant, no_free, no_lock, release_is}
 
 module _ (t : Topology) (s : IsSimple 2 1 8 t) where

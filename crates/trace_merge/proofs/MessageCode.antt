@@ -1,10 +1,7 @@
--- The written message passing, replayed: each hart's instructions are those of the image.
-use Rattle.std.proofs.Common.{◌≡◌, ◌≢◌, inl, inr, ◌<◌, ℕ, zero, suc, ◌+◌, Bool, true, false, refl, sym, ap, subst, arith}
-use Rattle.std.proofs.lemmas.Bool.Decides.{nat_tests}
-use Rattle.std.specs.Prelude.{◌==◌, ◌&&◌, ◌*◌, nat_lt, if◌then◌else◌, pos, negsuc}
+-- The instructions of the written message passing, where they stand, and what they need.
+use Rattle.std.proofs.Common.{◌≡◌, true, false, refl, arith, ◌∙◌}
+use Rattle.std.specs.Prelude.{◌&&◌, if◌then◌else◌, pos, negsuc}
 use Rattle.dash_base.specs.Topology.{IsSimple}
-use Rattle.dash_base.specs.Words.{merged}
-use Rattle.dash_base.specs.declared.id.HartId.{HartId}
 use Rattle.dash_base.specs.declared.instr.Instr.{Instr}
 use Rattle.dash_base.specs.declared.instr.Instr.TheVariants as instr
 use Rattle.dash_base.specs.declared.ops.AmoOp.TheVariants.{Lr, Swap}
@@ -13,19 +10,16 @@ use Rattle.dash_base.specs.declared.ops.StoreOp.TheVariants.{Sw}
 use Rattle.dash_base.specs.declared.ops.LoadOp.TheVariants.{Lw}
 use Rattle.dash_base.specs.declared.topology.Topology.{Topology}
 use Rattle.elf_load.specs.Image.{fetched, word_among, byte_among, is_writable}
-use Rattle.hart_core.specs.HartState.{HartState}
-use Rattle.hart_core.specs.Access.{trap_or, placed, lock_need}
-use Rattle.hart_core.specs.Opening.{hart_count, opening_hart}
-use Rattle.hart_core.specs.Meaning.{performed, instr_need}
-use Rattle.hart_core.specs.declared.need.Found.TheVariants.{This}
+use Rattle.hart_core.specs.HartState.{HartState, reg}
+use Rattle.hart_core.specs.Access.{trap_or, placed, lock_need, load_need, store_need, amo_need}
+use Rattle.hart_core.specs.Meaning.{instr_need, IsFound}
+use Rattle.hart_core.specs.declared.need.Found.TheVariants.{This, NoWord}
 use Rattle.hart_core.specs.declared.need.Need.TheVariants as needed
-use Rattle.dash_event.specs.declared.event.Kind.{Kind}
-use Rattle.dash_event.specs.declared.event.Kind.TheVariants as kind
 use Rattle.flat_model.specs.Offered.{no_label, acquire_label, release_label}
-use Rattle.dash_model.specs.Log.{IsEventAt}
-use Rattle.dash_model.specs.Replay.{Harts, Moves, Accesses, Replays, IsReplay}
-use Rattle.trace_merge.specs.WrittenLogs.{message_image, message_store, flag_release, flag_acquire, message_load, message_log}
-use Rattle.trace_merge.proofs.Written.{outside_locks, access_clear, hart_by}
+use Rattle.trace_merge.specs.WrittenLogs.{message_image}
+use Rattle.trace_merge.proofs.Written.{outside_locks, access_clear}
+use Rattle.rv32_alu.specs.Arithmetic.{moved_by}
+use Rattle.hart_core.specs.declared.width.Width.TheVariants as width
 
 -- its instructions
 unfoldable pub skip : Instr
@@ -46,181 +40,54 @@ again = instr.Branch (record { op = Beq; rs1 = 12; rs2 = 0; offset = negsuc 3; r
 unfoldable pub read : Instr
 read = instr.Load (record { op = Lw; rd = 13; rs1 = 0; offset = pos 64; rd_in_range = omega arith; rs1_in_range = omega arith; offset_in_range = record { low = omega arith; high = omega arith } })
 
-abbrev hart_0 : HartId
-hart_0 = record { 0 = 0 }
+-- where they stand
+pub skip_found : IsFound message_image 4096 (This skip)
+unfolding skip fetched word_among byte_among
+skip_found = refl
 
-abbrev hart_1 : HartId
-hart_1 = record { 0 = 1 }
+pub write_found : IsFound message_image 4100 (This write)
+unfolding write fetched word_among byte_among
+write_found = refl
 
-module _ (t : Topology) (s : IsSimple 2 1 8 t) where
-  -- hart 0 after each of its instructions, and hart 1
-  abbrev pub writer : ℕ → HartState
-  writer zero = opening_hart message_image t 0
-  writer (suc zero) = performed (opening_hart message_image t 0) skip 0
-  writer (suc (suc zero)) = performed (performed (opening_hart message_image t 0) skip 0) write 0
-  writer i = performed (performed (performed (opening_hart message_image t 0) skip 0) write 0) release 0
+pub release_found : IsFound message_image 4104 (This release)
+unfolding release fetched word_among byte_among
+release_found = refl
 
-  abbrev pub reader : ℕ → HartState
-  reader zero = opening_hart message_image t 1
-  reader (suc zero) = performed (opening_hart message_image t 1) skip 0
-  reader (suc (suc zero)) = performed (performed (opening_hart message_image t 1) skip 0) acquire 2
-  reader (suc (suc (suc zero))) = performed (performed (performed (opening_hart message_image t 1) skip 0) acquire 2) again 0
-  reader i = performed (performed (performed (performed (opening_hart message_image t 1) skip 0) acquire 2) again 0) read 2
+pub acquire_found : IsFound message_image 4108 (This acquire)
+unfolding acquire fetched word_among byte_among
+acquire_found = refl
 
-  -- how many instructions of each stand before a position
-  abbrev pub writer_at : ℕ → ℕ
-  writer_at zero = 0
-  writer_at (suc zero) = 1
-  writer_at (suc (suc zero)) = 2
-  writer_at (suc (suc (suc zero))) = 2
-  writer_at i = 3
+pub again_found : IsFound message_image 4112 (This again)
+unfolding again fetched word_among byte_among
+again_found = refl
 
-  abbrev pub reader_at : ℕ → ℕ
-  reader_at zero = 0
-  reader_at (suc zero) = 0
-  reader_at (suc (suc zero)) = 0
-  reader_at (suc (suc (suc zero))) = 0
-  reader_at (suc (suc (suc (suc zero)))) = 0
-  reader_at (suc (suc (suc (suc (suc zero))))) = 1
-  reader_at (suc (suc (suc (suc (suc (suc zero)))))) = 2
-  reader_at (suc (suc (suc (suc (suc (suc (suc zero))))))) = 3
-  reader_at i = 4
+pub read_found : IsFound message_image 4116 (This read)
+unfolding read fetched word_among byte_among
+read_found = refl
 
-  abbrev pub harts : ℕ → Harts
-  harts i g = if g == 0 then writer (writer_at i) else (if g == 1 then reader (reader_at i) else opening_hart message_image t g)
+pub end_found : IsFound message_image 4120 NoWord
+unfolding fetched
+end_found = refl
 
-  count : 1 < hart_count t
-  count = let c = s.clusters_is in let h = s.harts_is in let e : hart_count t ≡ 2 * 1 = (λ i. c i * h i) in omega arith
+-- what they need of memory, in a hart whose register 0 is 0
+module _ (t : Topology) (s : IsSimple 2 1 8 t) (h : HartState) (zero_is : reg h 0 ≡ 0) where
+  pub write_need : instr_need message_image t h write ≡ needed.Store (record { 0 = 64 }) 15 (placed 0 4 (reg h 11))
+  unfolding write is_writable
+  write_need = (λ j. store_need message_image t (moved_by (zero_is j) (pos 64)) width.Word (reg h 11))
+      ∙ (λ j. trap_or (access_clear 2 1 8 t s message_image true 64 4 refl (omega arith) (omega arith) refl j) 64 (needed.Store (record { 0 = 64 }) 15 (placed 0 4 (reg h 11))))
 
-  pub in_range : (h : ℕ) → h < 2 → h < hart_count t
-  in_range h small = let c = count in omega arith
+  pub release_need : instr_need message_image t h release ≡ needed.Rmw (record { 0 = 0 }) Swap (reg h 11) release_label
+  unfolding release is_writable
+  release_need = (λ j. amo_need message_image t (zero_is j) Swap release_label (reg h 11))
+      ∙ (λ j. if true && outside_locks 2 1 8 t s 0 (omega arith) j then lock_need 0 Swap release_label (reg h 11)
+      else trap_or (access_clear 2 1 8 t s message_image true 0 4 refl (omega arith) (omega arith) refl j) 0 (needed.Rmw (record { 0 = 0 }) Swap (reg h 11) release_label))
 
-  write_need : instr_need message_image t (writer 1) write ≡ needed.Store (record { 0 = 64 }) 15 2
-  unfolding skip write is_writable
-  write_need = λ i. trap_or (access_clear 2 1 8 t s message_image true 64 4 refl (omega arith) (omega arith) refl i) 64 (needed.Store (record { 0 = 64 }) 15 (placed 0 4 (s.clusters_is i * s.harts_is i)))
+  pub acquire_need : instr_need message_image t h acquire ≡ needed.Load (record { 0 = 0 }) 15 acquire_label true
+  unfolding acquire
+  acquire_need = (λ j. amo_need message_image t (zero_is j) Lr acquire_label (reg h 0))
+      ∙ (λ j. trap_or (access_clear 2 1 8 t s message_image false 0 4 refl (omega arith) (omega arith) refl j) 0 (needed.Load (record { 0 = 0 }) 15 acquire_label true))
 
-  release_need : instr_need message_image t (writer 2) release ≡ needed.Rmw (record { 0 = 0 }) Swap 2 release_label
-  unfolding skip write release is_writable
-  release_need = λ i. if true && outside_locks 2 1 8 t s 0 (omega arith) i then lock_need 0 Swap release_label (s.clusters_is i * s.harts_is i)
-      else trap_or (access_clear 2 1 8 t s message_image true 0 4 refl (omega arith) (omega arith) refl i) 0 (needed.Rmw (record { 0 = 0 }) Swap (s.clusters_is i * s.harts_is i) release_label)
-
-  acquire_need : instr_need message_image t (reader 1) acquire ≡ needed.Load (record { 0 = 0 }) 15 acquire_label true
-  unfolding skip acquire
-  acquire_need = λ i. trap_or (access_clear 2 1 8 t s message_image false 0 4 refl (omega arith) (omega arith) refl i) 0 (needed.Load (record { 0 = 0 }) 15 acquire_label true)
-
-  read_need : instr_need message_image t (reader 3) read ≡ needed.Load (record { 0 = 64 }) 15 no_label false
-  unfolding skip acquire again read
-  read_need = λ i. trap_or (access_clear 2 1 8 t s message_image false 64 4 refl (omega arith) (omega arith) refl i) 64 (needed.Load (record { 0 = 64 }) 15 no_label false)
-
-  writer_others : (i j n g : ℕ) → g ≢ 0 → (if g == 0 then writer j else (if g == 1 then reader n else opening_hart message_image t g)) ≡ (if g == 0 then writer i else (if g == 1 then reader n else opening_hart message_image t g))
-  writer_others i j n g differ = hart_by 0 g differ (writer j) (writer i) (if g == 1 then reader n else opening_hart message_image t g)
-
-  reader_others : (i j n g : ℕ) → g ≢ 1 → (if g == 0 then writer n else (if g == 1 then reader j else opening_hart message_image t g)) ≡ (if g == 0 then writer n else (if g == 1 then reader i else opening_hart message_image t g))
-  reader_others i j n g differ = ap (λ x. if g == 0 then writer n else x) (hart_by 1 g differ (reader j) (reader i) (opening_hart message_image t g))
-
-  writer_skips : Moves message_image t (harts 0) (harts 1) hart_0 needed.Alu 0
-  unfolding skip fetched word_among byte_among
-  writer_skips = record {
-    in_range = in_range 0 (omega arith);
-    does = record { goes = ap (nat_lt 0) s.budget_is; found = This skip; is_found = refl; needs = refl; after = refl };
-    others = writer_others 0 1 0;
-  }
-
-  writes : Accesses message_image t (harts 1) (harts 2) message_store
-  unfolding skip write fetched word_among byte_among
-  writes = record {
-    need = needed.Store (record { 0 = 64 }) 15 2;
-    moves = record {
-      in_range = in_range 0 (omega arith);
-      does = record { goes = ap (nat_lt 1) s.budget_is; found = This write; is_found = refl; needs = sym write_need; after = refl };
-      others = writer_others 1 2 0;
-    };
-    content = 0;
-    succeeds = true;
-    is_offered = refl;
-  }
-
-  releases : Accesses message_image t (harts 3) (harts 4) flag_release
-  unfolding skip write release fetched word_among byte_among merged
-  releases = record {
-    need = needed.Rmw (record { 0 = 0 }) Swap 2 release_label;
-    moves = record {
-      in_range = in_range 0 (omega arith);
-      does = record { goes = ap (nat_lt 2) s.budget_is; found = This release; is_found = refl; needs = sym release_need; after = refl };
-      others = writer_others 2 3 0;
-    };
-    content = 0;
-    succeeds = true;
-    is_offered = refl;
-  }
-
-  reader_skips : Moves message_image t (harts 4) (harts 5) hart_1 needed.Alu 0
-  unfolding skip fetched word_among byte_among
-  reader_skips = record {
-    in_range = in_range 1 (omega arith);
-    does = record { goes = ap (nat_lt 0) s.budget_is; found = This skip; is_found = refl; needs = refl; after = refl };
-    others = reader_others 0 1 3;
-  }
-
-  acquires : Accesses message_image t (harts 5) (harts 6) flag_acquire
-  unfolding skip acquire fetched word_among byte_among merged
-  acquires = record {
-    need = needed.Load (record { 0 = 0 }) 15 acquire_label true;
-    moves = record {
-      in_range = in_range 1 (omega arith);
-      does = record { goes = ap (nat_lt 1) s.budget_is; found = This acquire; is_found = refl; needs = sym acquire_need; after = refl };
-      others = reader_others 1 2 3;
-    };
-    content = 2;
-    succeeds = true;
-    is_offered = refl;
-  }
-
-  reader_goes_on : Moves message_image t (harts 6) (harts 7) hart_1 needed.Alu 0
-  unfolding skip acquire again fetched word_among byte_among
-  reader_goes_on = record {
-    in_range = in_range 1 (omega arith);
-    does = record { goes = ap (nat_lt 2) s.budget_is; found = This again; is_found = refl; needs = refl; after = refl };
-    others = reader_others 2 3 3;
-  }
-
-  reads : Accesses message_image t (harts 7) (harts 8) message_load
-  unfolding skip acquire again read fetched word_among byte_among merged
-  reads = record {
-    need = needed.Load (record { 0 = 64 }) 15 no_label false;
-    moves = record {
-      in_range = in_range 1 (omega arith);
-      does = record { goes = ap (nat_lt 3) s.budget_is; found = This read; is_found = refl; needs = sym read_need; after = refl };
-      others = reader_others 3 4 3;
-    };
-    content = 2;
-    succeeds = true;
-    is_offered = refl;
-  }
-
-  moves : (i : ℕ) (k : Kind) → IsEventAt message_log i k → Replays message_image t (harts i) k (harts (i + 1))
-  moves zero k at =
-      subst (λ x. Replays message_image t (harts 0) x (harts 1)) (let e : kind.Alu hart_0 4096 ≡ k = cc in e) writer_skips
-  moves (suc zero) k at =
-      subst (λ x. Replays message_image t (harts 1) x (harts 2)) (let e : kind.Store message_store ≡ k = cc in e) (writes, refl, refl)
-  moves (suc (suc zero)) k at =
-      subst (λ x. Replays message_image t (harts 2) x (harts 3)) (let e : kind.Commit hart_0 2 (record { 0 = 4 }) 1 ≡ k = cc in e) (record { in_range = in_range 0 (omega arith); stays = λ g. refl })
-  moves (suc (suc (suc zero))) k at =
-      subst (λ x. Replays message_image t (harts 3) x (harts 4)) (let e : kind.Rmw flag_release (record { 0 = 0 }) 1 ≡ k = cc in e) (releases, inl refl)
-  moves (suc (suc (suc (suc zero)))) k at =
-      subst (λ x. Replays message_image t (harts 4) x (harts 5)) (let e : kind.Alu hart_1 4096 ≡ k = cc in e) reader_skips
-  moves (suc (suc (suc (suc (suc zero))))) k at =
-      subst (λ x. Replays message_image t (harts 5) x (harts 6)) (let e : kind.Load flag_acquire 1 ≡ k = cc in e) (acquires, inr (refl, record { version = 1; is = refl }))
-  moves (suc (suc (suc (suc (suc (suc zero)))))) k at =
-      subst (λ x. Replays message_image t (harts 6) x (harts 7)) (let e : kind.Alu hart_1 4112 ≡ k = cc in e) reader_goes_on
-  moves (suc (suc (suc (suc (suc (suc (suc zero))))))) k at =
-      subst (λ x. Replays message_image t (harts 7) x (harts 8)) (let e : kind.Load message_load 1 ≡ k = cc in e) (reads, inl (refl, inl (record { version = 1; is = refl })))
-  moves (suc (suc (suc (suc (suc (suc (suc (suc i)))))))) k at = absurd cc
-
-  pub replay : IsReplay message_image t message_log harts
-  replay = record { opens = λ h. opens_by h (h == 0) (h == 1) refl refl; moves = moves }
-    where
-      opens_by : (h : ℕ) (b c : Bool) → (h == 0) ≡ b → (h == 1) ≡ c → (if b then opening_hart message_image t 0 else (if c then opening_hart message_image t 1 else opening_hart message_image t h)) ≡ opening_hart message_image t h
-      opens_by h true c e e' = let z : 0 ≡ h = grind (arith, nat_tests) in ap (opening_hart message_image t) z
-      opens_by h false true e e' = let z : 1 ≡ h = grind (arith, nat_tests) in ap (opening_hart message_image t) z
-      opens_by h false false e e' = refl
+  pub read_need : instr_need message_image t h read ≡ needed.Load (record { 0 = 64 }) 15 no_label false
+  unfolding read
+  read_need = (λ j. load_need message_image t (moved_by (zero_is j) (pos 64)) width.Word)
+      ∙ (λ j. trap_or (access_clear 2 1 8 t s message_image false 64 4 refl (omega arith) (omega arith) refl j) 64 (needed.Load (record { 0 = 64 }) 15 no_label false))

@@ -1,7 +1,7 @@
 -- Each step of a sequential run of the written message passing, by the instruction at the hart's pc.
 use Rattle.std.proofs.Common.{◌≡◌, ◌⊎◌, inl, inr, ◌<◌, ℕ, ◌+◌, ◌%◌, ◌^◌, Bool, true, false, List, [], ◌∷◌, ◌++◌, length, None, refl, sym, ◌∙◌, ap, subst, arith, eq-eqb}
 use Rattle.std.proofs.lemmas.List.{length-set, get_or-set_same}
-use Rattle.std.specs.Prelude.{◌==◌, ◌&&◌, not, if◌then◌else◌, pos, negsuc}
+use Rattle.std.specs.Prelude.{◌==◌, not, if◌then◌else◌, pos, negsuc}
 use Rattle.dash_base.specs.Topology.{IsSimple}
 use Rattle.dash_base.specs.Words.{merged}
 use Rattle.dash_base.specs.declared.end.End.{End}
@@ -9,13 +9,11 @@ use Rattle.dash_base.specs.declared.end.End.TheVariants.{Trapped}
 use Rattle.dash_base.specs.declared.id.HartId.{HartId}
 use Rattle.dash_base.specs.declared.end.Trap.TheVariants as trap
 use Rattle.dash_base.specs.declared.instr.Instr.{Instr}
-use Rattle.dash_base.specs.declared.ops.AmoOp.TheVariants.{Lr, Swap}
+use Rattle.dash_base.specs.declared.ops.AmoOp.TheVariants.{Swap}
 use Rattle.dash_base.specs.declared.topology.Topology.{Topology}
-use Rattle.elf_load.specs.Image.{fetched, word_among, byte_among, is_writable}
 use Rattle.rv32_alu.specs.Arithmetic.{moved_by}
-use Rattle.hart_core.specs.declared.width.Width.TheVariants as width
 use Rattle.hart_core.specs.HartState.{HartState, reg}
-use Rattle.hart_core.specs.Access.{trap_or, placed, lock_need, load_need, store_need, amo_need}
+use Rattle.hart_core.specs.Access.{placed}
 use Rattle.hart_core.specs.Meaning.{IsFound, need_at, instr_need, jump_need, after_need, performed}
 use Rattle.hart_core.specs.declared.need.Found.{Found}
 use Rattle.hart_core.specs.declared.need.Found.TheVariants.{NoWord, This}
@@ -30,8 +28,7 @@ use Rattle.flat_model.specs.Offered.{all_bytes, bytes_under, no_label, acquire_l
 use Rattle.flat_model.specs.State.{FlatState}
 use Rattle.flat_model.specs.Step.{word_after, record_of, content, answer_of, IsFlatStep}
 use Rattle.trace_merge.specs.WrittenLogs.{message_image}
-use Rattle.trace_merge.proofs.Written.{outside_locks, access_clear}
-use Rattle.trace_merge.proofs.MessageCode.{skip, write, release, acquire, again, read}
+use Rattle.trace_merge.proofs.MessageCode.{skip, write, release, acquire, again, read, skip_found, write_found, release_found, acquire_found, again_found, read_found, end_found, write_need, release_need, acquire_need, read_need}
 use Rattle.trace_merge.proofs.MessageRuns.{released_now, acquired_now, loaded_now, IsAcquired, IsKnown, known_store, known_flag, IsHartAt, skips, stores, releases, acquires, tests, loads, stops, IsHart, IsFlag, acquired_later, flag_later}
 
 -- what a step of hart g leaves
@@ -88,10 +85,6 @@ module _ (t : Topology) (s : IsSimple 2 1 8 t) (rs : List StepRecord) (old : Fla
       quiet needed.Alu (record_is needed.Alu is) (plain_is_none (record { 0 = g })) refl
       (record { size = ap (λ k. length k.registers) next ∙ i.size; zero_register = zero_is; stands = subst (IsHartAt (rs ++ r ∷ []) g) (sym next) stands })
 
-  skip_found : IsFound message_image 4096 (This skip)
-  unfolding skip fetched word_among byte_among
-  skip_found = refl
-
   kept_skip : h.pc ≡ 4096 → reg h 10 ≡ g → h.retired ≡ 0 → (g ≡ 0) ⊎ (g ≡ 1) → IsKept rs g r (old.memory 0) is_step.next
   unfolding skip
   kept_skip at number retired (inl first) =
@@ -107,15 +100,6 @@ module _ (t : Topology) (s : IsSimple 2 1 8 t) (rs : List StepRecord) (old : Fla
       (λ j. record h { pc = if not (ten j == i.zero_register j) then moved_by (at j) (pos 12) else (h.pc + 4) % 2 ^ 32; retired = h.retired + 1 })
       (acquires refl)
 
-  write_found : IsFound message_image 4100 (This write)
-  unfolding write fetched word_among byte_among
-  write_found = refl
-
-  write_need : instr_need message_image t h write ≡ needed.Store (record { 0 = 64 }) 15 (placed 0 4 (reg h 11))
-  unfolding write is_writable
-  write_need = (λ j. store_need message_image t (moved_by (i.zero_register j) (pos 64)) width.Word (reg h 11))
-      ∙ (λ j. trap_or (access_clear 2 1 8 t s message_image true 64 4 refl (omega arith) (omega arith) refl j) 64 (needed.Store (record { 0 = 64 }) 15 (placed 0 4 (reg h 11))))
-
   -- an access, with what it leaves
   accessed : (need : Need) (a : Access) → r ≡ step.Access a → IsKnown (rs ++ r ∷ []) (length rs) a → IsFlag (rs ++ r ∷ []) (word_after 0 (step.Access a) (old.memory 0))
       → IsHart (rs ++ r ∷ []) g is_step.next → IsKept rs g r (old.memory 0) is_step.next
@@ -129,7 +113,7 @@ module _ (t : Topology) (s : IsSimple 2 1 8 t) (rs : List StepRecord) (old : Fla
   unfolding write
   kept_write at first retired =
       let need = needed.Store (record { 0 = 64 }) 15 (placed 0 4 (reg h 11)) in
-      let is = need_is 4100 (This write) need at write_found write_need in
+      let is = need_is 4100 (This write) need at write_found (write_need t s h i.zero_register) in
       let next = next_is 4100 (This write) need at write_found is in
       accessed need _ (record_is need is) (known_store first refl (ap (λ n. n + 1) retired)) (flag_later rs r (old.memory 0) f)
       (record {
@@ -138,21 +122,11 @@ module _ (t : Topology) (s : IsSimple 2 1 8 t) (rs : List StepRecord) (old : Fla
         stands = subst (IsHartAt (rs ++ r ∷ []) g) (sym next) (releases (λ j. (at j + 4) % 2 ^ 32) first (ap (λ n. n + 1) retired));
       })
 
-  release_found : IsFound message_image 4104 (This release)
-  unfolding release fetched word_among byte_among
-  release_found = refl
-
-  release_need : instr_need message_image t h release ≡ needed.Rmw (record { 0 = 0 }) Swap (reg h 11) release_label
-  unfolding release is_writable
-  release_need = (λ j. amo_need message_image t (i.zero_register j) Swap release_label (reg h 11))
-      ∙ (λ j. if true && outside_locks 2 1 8 t s 0 (omega arith) j then lock_need 0 Swap release_label (reg h 11)
-      else trap_or (access_clear 2 1 8 t s message_image true 0 4 refl (omega arith) (omega arith) refl j) 0 (needed.Rmw (record { 0 = 0 }) Swap (reg h 11) release_label))
-
   kept_release : h.pc ≡ 4104 → g ≡ 0 → h.retired ≡ 2 → IsKept rs g r (old.memory 0) is_step.next
   unfolding release
   kept_release at first retired =
       let need = needed.Rmw (record { 0 = 0 }) Swap (reg h 11) release_label in
-      let is = need_is 4104 (This release) need at release_found release_need in
+      let is = need_is 4104 (This release) need at release_found (release_need t s h i.zero_register) in
       let next = next_is 4104 (This release) need at release_found is in
       accessed need _ (record_is need is) (known_flag refl (λ o. let no_bit : true ≡ false = o.no_release_bit in cc))
       (inr (released_now rs r _ (record_is need is) first refl (ap (λ n. n + 1) retired) (record { writes = refl; release_bit = refl })))
@@ -162,20 +136,11 @@ module _ (t : Topology) (s : IsSimple 2 1 8 t) (rs : List StepRecord) (old : Fla
         stands = subst (IsHartAt (rs ++ r ∷ []) g) (sym next) (acquires (λ j. (at j + 4) % 2 ^ 32));
       })
 
-  acquire_found : IsFound message_image 4108 (This acquire)
-  unfolding acquire fetched word_among byte_among
-  acquire_found = refl
-
-  acquire_need : instr_need message_image t h acquire ≡ needed.Load (record { 0 = 0 }) 15 acquire_label true
-  unfolding acquire
-  acquire_need = (λ j. amo_need message_image t (i.zero_register j) Lr acquire_label (reg h 0))
-      ∙ (λ j. trap_or (access_clear 2 1 8 t s message_image false 0 4 refl (omega arith) (omega arith) refl j) 0 (needed.Load (record { 0 = 0 }) 15 acquire_label true))
-
   kept_acquire : h.pc ≡ 4108 → IsKept rs g r (old.memory 0) is_step.next
   unfolding acquire
   kept_acquire at =
       let need = needed.Load (record { 0 = 0 }) 15 acquire_label true in
-      let is = need_is 4108 (This acquire) need at acquire_found acquire_need in
+      let is = need_is 4108 (This acquire) need at acquire_found (acquire_need t s h i.zero_register) in
       let next = next_is 4108 (This acquire) need at acquire_found is in
       let answer : answer_of r ≡ bytes_under all_bytes (old.memory 0) = ap answer_of (record_is need is) in
       let twelve : reg is_step.next 12 ≡ answer_of r = ap (λ k. reg k 12) next ∙ get_or-set_same h.registers 12 (answer_of r) 0 (let n = i.size in omega arith) in
@@ -190,10 +155,6 @@ module _ (t : Topology) (s : IsSimple 2 1 8 t) (rs : List StepRecord) (old : Fla
           → (reg is_step.next 12 ≡ 0) ⊎ IsAcquired (rs ++ r ∷ []) g
       by_flag is read (inl clear) = inl (read ∙ ap (bytes_under all_bytes) clear ∙ clear_read)
       by_flag is read (inr p) = inr (acquired_now rs r g _ (record_is (needed.Load (record { 0 = 0 }) 15 acquire_label true) is) p refl refl (record { reads = refl; acquire_bit = refl }))
-
-  again_found : IsFound message_image 4112 (This again)
-  unfolding again fetched word_among byte_among
-  again_found = refl
 
   kept_test : h.pc ≡ 4112 → (reg h 12 ≡ 0) ⊎ IsAcquired rs g → (b : Bool) → (reg h 12 == 0) ≡ b → IsKept rs g r (old.memory 0) is_step.next
   unfolding again
@@ -211,20 +172,11 @@ module _ (t : Topology) (s : IsSimple 2 1 8 t) (rs : List StepRecord) (old : Fla
       (λ j. record h { pc = if not_taken j then moved_by h.pc (negsuc 3) else (at j + 4) % 2 ^ 32; retired = h.retired + 1 })
       (loads refl (acquired_later rs r g c))
 
-  read_found : IsFound message_image 4116 (This read)
-  unfolding read fetched word_among byte_among
-  read_found = refl
-
-  read_need : instr_need message_image t h read ≡ needed.Load (record { 0 = 64 }) 15 no_label false
-  unfolding read
-  read_need = (λ j. load_need message_image t (moved_by (i.zero_register j) (pos 64)) width.Word)
-      ∙ (λ j. trap_or (access_clear 2 1 8 t s message_image false 64 4 refl (omega arith) (omega arith) refl j) 64 (needed.Load (record { 0 = 64 }) 15 no_label false))
-
   kept_read : h.pc ≡ 4116 → IsAcquired rs g → IsKept rs g r (old.memory 0) is_step.next
   unfolding read
   kept_read at c =
       let need = needed.Load (record { 0 = 64 }) 15 no_label false in
-      let is = need_is 4116 (This read) need at read_found read_need in
+      let is = need_is 4116 (This read) need at read_found (read_need t s h i.zero_register) in
       let next = next_is 4116 (This read) need at read_found is in
       accessed need _ (record_is need is) (loaded_now rs r _ refl refl c) (flag_later rs r (old.memory 0) f)
       (record {
@@ -232,10 +184,6 @@ module _ (t : Topology) (s : IsSimple 2 1 8 t) (rs : List StepRecord) (old : Fla
         zero_register = zero_is;
         stands = stops (ap (λ k. k.pc) next ∙ (λ j. (at j + 4) % 2 ^ 32));
       })
-
-  end_found : IsFound message_image 4120 NoWord
-  unfolding fetched word_among byte_among
-  end_found = refl
 
   kept_end : h.pc ≡ 4120 → IsKept rs g r (old.memory 0) is_step.next
   kept_end at =

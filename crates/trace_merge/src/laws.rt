@@ -1,5 +1,5 @@
 //! Laws of logs. The functions do nothing: their contracts are the laws.
-ghost use Rattle.trace_merge.specs.OrderLaws.{CommitOrder, OneHartIsInOrder, AccessesAreRecorded, ConsoleIsRecorded};
+ghost use Rattle.trace_merge.specs.OrderLaws.{CommitOrder, OneHartIsInOrder, ConsoleIsTheRuns};
 ghost use Rattle.trace_merge.specs.WrittenLogs.{ForwardingIsFollowed, MessageIsFollowed, MessageIsProperlyLabelled, MessageIsInOrder};
 
 /// Where no sequential run of an image has a race, the records of every followed log, each at its order
@@ -13,14 +13,9 @@ pub fn one_hart_is_in_order()
     ensures { OneHartIsInOrder }
 {}
 
-/// The accesses of a log are those of its records, in the same order, but for what they were shown.
-pub fn accesses_are_recorded()
-    ensures { AccessesAreRecorded }
-{}
-
-/// The console of a log is that of its records.
-pub fn console_is_recorded()
-    ensures { ConsoleIsRecorded }
+/// A run of the records of a log leaves the console of the log.
+pub fn console_is_the_runs()
+    ensures { ConsoleIsTheRuns }
 {}
 
 /// A written log is followed in which a hart loads its own store, commits it, and loads the version
