@@ -159,5 +159,16 @@ def image(code, **fields):
     )
 
 
+def image_of(entry, *segments):
+    """An ELF file of several segments, each given by its address, its bytes, its size in memory and its flags."""
+    place = 52 + 32 * len(segments)
+    table, contents = b"", b""
+    for at, data, memsz, flags in segments:
+        fields = {"p_offset": place + len(contents), "p_vaddr": at, "p_paddr": at, "p_filesz": len(data), "p_memsz": memsz, "p_flags": flags}
+        table += struct.pack("<8I", *{**SEGMENT, **fields}.values())
+        contents += data
+    return image(b"", e_entry=entry, e_phnum=len(segments))[:52] + table + contents
+
+
 def code_of(words):
     return b"".join(struct.pack("<I", word & 0xFFFFFFFF) for word in words)
