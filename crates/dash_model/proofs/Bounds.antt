@@ -26,10 +26,6 @@ abbrev pub Strict : ℕ → ℕ → List ℕ → Type 0
 Strict lo n [] = lo ≤ n
 Strict lo n (c ∷ cs) = (lo ≤ c) × (c < n) × Strict (suc c) n cs
 
-strict_more : (lo hi n : ℕ) (cs : List ℕ) → lo ≤ hi → Strict hi n cs → Strict lo n cs
-strict_more lo hi n [] l s = omega arith
-strict_more lo hi n (c ∷ cs) l s = (let a = s.0 in omega arith, s.1, s.2)
-
 strict_with_cases : (f x lo n : ℕ) (cs : List ℕ) (i j : Bool) → (x == f) ≡ i → nat_lt f x ≡ j → lo ≤ f → f < n → Strict lo n (x ∷ cs)
     → (suc x ≤ f → Strict (suc x) n (with_member f cs)) → Strict lo n (cond i (x ∷ cs) (cond j (f ∷ x ∷ cs) (x ∷ with_member f cs)))
 strict_with_cases f x lo n cs true j e g l b s ih = s

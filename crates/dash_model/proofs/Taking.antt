@@ -15,11 +15,6 @@ use Rattle.dash_model.specs.Row.{row}
 use Rattle.dash_model.specs.Machine.{PrecedesAll, Machine, Step, by, event_of, taken, AtHead, less, part_after, sends, after}
 use Rattle.dash_model.specs.LocalRun.{sent_in, of_cluster}
 
--- lanes of a list
-pub lane_one : (a b : ℕ) (k : Class) (q : Packet) → in_lane a b k q ≡ false → lane a b k (q ∷ []) ≡ []
-unfolding lane
-lane_one a b k q e = ap (λ t. cond t (q ∷ []) []) e
-
 pub same_lane : (a b : ℕ) (k j i : Class) (c d e f : ℕ) → (c == a) && (d == b) && same_class j k ≡ true
     → (e == a) && (f == b) && same_class i k ≡ true → (e == c) && (f == d) && same_class i j ≡ true
 same_lane a b Request Request Request c d e f g h = grind (arith, nat_tests)
