@@ -15,11 +15,13 @@ pub data Act : Type 0 where
   Commit : (hart : ℕ) (line : Line) → Act
   Evict Drop BusRead BusOwn : (hart : ℕ) → Act
 
+-- a slot that was refused asks the home again
 abbrev pub again_row : LineId → ℕ → Slot → Cell → Home → Did
 again_row l h (Reads n t Refused) a b = record { cell = record a { slot = Reads n t Asked }; home = b; sent = to h (Read l) ∷ [] }
 again_row l h (Owns n t Refused) a b = record { cell = record a { slot = Owns n t Asked }; home = b; sent = to h (ReadEx l) ∷ [] }
 again_row l h s a b = still a b
 
+-- the line that came to a slot: its hart is the only holder, and of a line to own the owner
 abbrev pub install_row : Slot → Cell → Home → Did
 install_row (Reads n t (Came d)) a b = record { cell = record a { slot = NoSlot; copy = Held (t ∷ []) None d }; home = b; sent = [] }
 install_row (Owns n t (Came d)) a b = record { cell = record a { slot = NoSlot; copy = Held (t ∷ []) (Some t) d }; home = b; sent = [] }
@@ -52,10 +54,12 @@ drop_hart t (Held hs None d) = shrunk (without t hs) d
 drop_hart t (Held hs (Some o) d) = Held (without t hs) (Some o) d
 drop_hart t NoCopy = NoCopy
 
+-- a hart of the cluster holds the line too
 abbrev pub bus_read : ℕ → Copy → Copy
 bus_read t (Held hs o d) = Held (with_member t hs) o d
 bus_read t NoCopy = NoCopy
 
+-- a hart of the owner's cluster is the only holder and the owner
 abbrev pub bus_own : ℕ → Copy → Copy
 bus_own t (Held hs (Some o) d) = Held (t ∷ []) (Some t) d
 bus_own t a = a

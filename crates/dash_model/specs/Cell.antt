@@ -32,6 +32,7 @@ pub data Entry : Type 0 where
   SharedBy : (sharers : List ℕ) → Entry
   Dirty : (owner : ℕ) → Entry
 
+-- a line at a cluster
 pub record Cell : Type 0 where
   pub copy : Copy
   pub slot : Slot

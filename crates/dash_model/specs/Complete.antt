@@ -56,17 +56,21 @@ pub record SomeHart (w : Config) (P : ℕ → Type 0) : Type 0 where
   pub inside : hart < all_harts w
   pub holds : P hart
 
+-- a trap was the end
 abbrev pub DidTrap : End → Type 0
 DidTrap (Trapped cause value) = Unit {0}
 DidTrap Running = ⊥
 DidTrap (Exited code) = ⊥
 
+-- some hart trapped
 abbrev pub SomeTrapped : Config → Machine → Type 0
 SomeTrapped w m = SomeHart w (λ h. DidTrap (hart_at w h m).core.end)
 
+-- some hart spent its budget
 abbrev pub SomeSpent : Config → Machine → Type 0
 SomeSpent w m = SomeHart w (λ h. IsSpent w h m)
 
+-- some hart waits
 abbrev pub SomeWaits : Config → Machine → Type 0
 SomeWaits w m = SomeHart w (λ h. IsWaiting w h m)
 

@@ -15,6 +15,7 @@ pub record Config : Type 0 where
   pub image : ImageView
   pub top : Topology
 
+-- numbers as names of clusters, lines and harts
 abbrev pub cluster_id : ℕ → ClusterId
 cluster_id n = record { 0 = n }
 
@@ -40,10 +41,11 @@ lines w = w.top.memory / 16
 abbrev pub home_of : Config → ℕ → ℕ
 home_of w l = l % w.top.clusters
 
--- the line of an address, and the place of the address's word in it
+-- the line of an address
 abbrev pub line_at : Config → ℕ → ℕ
 line_at w address = (line_of w.top (record { 0 = address })).0
 
+-- the place of an address's word in its line
 abbrev pub place_of : Config → ℕ → ℕ
 place_of w address = (address - w.top.base) % 16 / 4
 
@@ -54,13 +56,15 @@ opening_line w l = record {
   version = 0;
 }
 
--- whether an address is that of a lock word, the number of that lock word, and the home of a lock word
+-- whether an address is that of a lock word
 abbrev pub is_lock : Config → ℕ → Bool
 is_lock w address = in_locks w.top address && (address % 4 == 0)
 
+-- the number of the lock word at an address
 abbrev pub lock_at : Config → ℕ → ℕ
 lock_at w address = (address - (w.top.base + w.top.memory)) / 4
 
+-- the home of a lock word
 abbrev pub lock_home : Config → ℕ → ℕ
 lock_home w i = i % w.top.clusters
 
@@ -68,9 +72,11 @@ lock_home w i = i % w.top.clusters
 abbrev pub front_slot : Config → ℕ → ℕ → ℕ
 front_slot w c h = h - c * w.top.harts
 
+-- the store slot of hart h of cluster c
 abbrev pub store_slot : Config → ℕ → ℕ → ℕ
 store_slot w c h = h - c * w.top.harts + w.top.harts
 
+-- the first prefetch slot, and the number after the last
 abbrev pub first_prefetch : Config → ℕ
 first_prefetch w = 2 * w.top.harts
 

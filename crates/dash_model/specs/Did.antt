@@ -3,6 +3,7 @@ use Rattle.std.specs.Prelude.{ℕ, ◌==◌, Bool, true, false, cond, nat_lt, So
 use Rattle.dash_msg.specs.declared.parcel.Sent.{Sent}
 use Rattle.dash_model.specs.Cell.{Copy, NoCopy, Held, Refused, Slot, NoSlot, Reads, Owns, Acks, NoAcks, Cell, Home}
 
+-- the cell, the home and the messages
 pub record Did : Type 0 where
   pub cell : Cell
   pub home : Home
@@ -28,10 +29,12 @@ abbrev pub has_copy : Copy → Bool
 has_copy NoCopy = false
 has_copy (Held hs o d) = true
 
+-- whether the cluster has an owner
 abbrev pub has_owner : Copy → Bool
 has_owner (Held hs (Some o) d) = true
 has_owner _ = false
 
+-- whether a hart is the owner
 abbrev pub is_owner : ℕ → Copy → Bool
 is_owner t (Held hs (Some o) d) = o == t
 is_owner t _ = false

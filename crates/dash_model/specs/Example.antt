@@ -13,6 +13,7 @@ use Rattle.dash_event.specs.declared.event.Kind.TheVariants as kind
 use Rattle.dash_model.specs.Config.{Config, cluster_id, line_id, hart_id}
 use Rattle.dash_model.specs.Machine.{IsRun}
 
+-- an address of a word
 abbrev pub word_addr : ℕ → WordAddr
 word_addr n = record { 0 = n }
 
@@ -28,6 +29,7 @@ first_load = record { hart = hart_id 0; number = 1; op = op.Load; labels = recor
 abbrev pub first_ask : Access
 first_ask = record { hart = hart_id 0; number = 2; op = op.Ask; labels = record { aq = true; rl = false }; word = word_addr 65536; mask = 15; read = Some 0; written = Some 1; seen = seen.Lock 0 }
 
+-- what the hart sends for it
 abbrev pub lock_request : Msg
 lock_request = LockAsk (hart_id 0) 2 (word_addr 65536) 1
 

@@ -63,6 +63,7 @@ abbrev pub SlotIs : Config → HintKind → ℕ → Option ℕ → Part → Type
 SlotIs w kind address (Some n) p = Opens w kind address n p
 SlotIs w kind address None p = (n : ℕ) → Opens w kind address n p → ⊥
 
+-- the guard of Hint
 pub record HintFits (w : Config) (c h pc : ℕ) (slot : Option ℕ) (d : Performed) (p : Part) : Type 0 where
   pub kinds : HintKind
   pub address : ℕ
@@ -85,11 +86,13 @@ pub record FromCopy (w : Config) (a : Access) (level : ℕ) (d : Performed) (p :
   pub level_is : level ≡ level_of w (line_at w a.word.0) (p.harts a.hart.0).near
   pub access : IsAccess a.hart.0 (number_of a.hart.0 p) d.need (word_in w a.word.0 (content (p.cells (line_at w a.word.0)).copy)) false (seen.Line (content (p.cells (line_at w a.word.0)).copy).version) a
 
+-- by what the write buffer tells the load
 abbrev pub LoadsBy : Config → Look → Access → ℕ → Bool → Performed → Part → Type 0
 LoadsBy w NoStore a level reserve d p = FromCopy w a level d p
 LoadsBy w (Hit value number) a level reserve d p = FromBuffer w value number a level reserve d p
 LoadsBy w Wait a level reserve d p = ⊥
 
+-- the guard of Load
 pub record LoadFits (w : Config) (c : ℕ) (a : Access) (level : ℕ) (d : Performed) (p : Part) : Type 0 where
   pub labels : Labels
   pub reserve : Bool
@@ -119,6 +122,7 @@ abbrev pub HasReserved : AmoOp → ℕ → Option ℕ → Type 0
 HasReserved Sc address r = r ≡ Some address
 HasReserved op address r = Unit {0}
 
+-- the guard of Rmw
 pub record RmwFits (w : Config) (c : ℕ) (a : Access) (l version : ℕ) (d : Performed) (p : Part) : Type 0 where
   pub op : AmoOp
   pub operand : ℕ
@@ -148,6 +152,7 @@ LockSends h m (needed.Ask word value) p = m ≡ LockAsk (hart_id h) (number_of h
 LockSends h m (needed.Unlock word) p = (m ≡ Unlock (hart_id h) (number_of h p) word) × Drained h p
 LockSends h m need p = ⊥
 
+-- the guard of LockSend
 pub record LockSendFits (w : Config) (c h : ℕ) (m : Msg) (p : Part) : Type 0 where
   pub mine : cluster_of w h ≡ c
   pub need : Need

@@ -86,10 +86,12 @@ abbrev pub reserving : Op → ℕ → Option ℕ → Option ℕ
 reserving op.Reserve a r = Some a
 reserving kind a r = r
 
+-- what the load leaves of its hart
 abbrev pub loaded_from : Config → Access → ℕ → Look → Processor → Processor
 loaded_from w a l (Hit v k) s = s
 loaded_from w a l look s = record s { near = upd s.near (l % w.top.l1) (Some l); reserved = reserving a.op a.word.0 s.reserved }
 
+-- the row of Load
 abbrev pub load_row : Config → Access → Performed → Part → Done
 load_row w a d p =
     quiet (change a.hart.0 (loaded_from w a (line_at w a.word.0) (look_by (newest_of a.word.0 (p.harts a.hart.0).buffer) a.mask) (record (p.harts a.hart.0) { core = d.next })) p)
@@ -98,6 +100,7 @@ load_row w a d p =
 abbrev pub entry_of : Access → Stored
 entry_of a = record { number = a.number; word = a.word; mask = a.mask; value = unwrap_or a.written 0 }
 
+-- the row of Store
 abbrev pub store_row : Access → Performed → Part → Done
 store_row a d p = quiet (change a.hart.0 (record (p.harts a.hart.0) { core = d.next; buffer = (p.harts a.hart.0).buffer ++ entry_of a ∷ [] }) p)
 
@@ -112,6 +115,7 @@ abbrev pub rmw_reserved : Op → Option ℕ → Option ℕ
 rmw_reserved op.Cond r = None
 rmw_reserved kind r = r
 
+-- the row of Rmw
 abbrev pub rmw_row : Config → Access → ℕ → Performed → Part → Done
 rmw_row w a l d p =
     acts w l (Commit a.hart.0 (written_in w a.word.0 a.mask (unwrap_or a.written 0) (content (p.cells l).copy))) (change a.hart.0 (record (p.harts a.hart.0) { core = d.next; reserved = rmw_reserved a.op (p.harts a.hart.0).reserved }) p)
@@ -126,6 +130,7 @@ lock_target w (LockAsk h n word v) = lock_home w (lock_at w word.0)
 lock_target w (Unlock h n word) = lock_home w (lock_at w word.0)
 lock_target w m = 0
 
+-- the row of LockSend
 abbrev pub lock_send_row : Config → ℕ → Msg → Part → Done
 lock_send_row w h m p = record { part = change h (record (p.harts h) { asked = true }) p; sent = to (lock_target w m) m ∷ [] }
 
@@ -143,5 +148,6 @@ abbrev pub kept : Config → ℕ → Slot → Bool → Processor → Processor
 kept w l (Owns n t phase) false s = record s { reserved = unreserved w l s.reserved }
 kept w l slot holder s = s
 
+-- the row of Install
 abbrev pub install : Config → ℕ → ℕ → Part → Done
 install w h l p = acts w l Install (change h (kept w l (p.cells l).slot (held_by h (p.cells l).copy) (p.harts h)) p)

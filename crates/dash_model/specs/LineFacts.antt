@@ -17,9 +17,11 @@ use Rattle.dash_model.specs.History.{version_of}
 abbrev pub cell_at : ℕ → Machine → ℕ → Cell
 cell_at l m c = (m.parts c).cells l
 
+-- line l at its home
 abbrev pub home_at : Config → ℕ → Machine → Home
 home_at w l m = (m.parts (home_of w l)).homes l
 
+-- a message is among these
 abbrev pub IsOnItsWay : Packet → List Packet → Type 0
 IsOnItsWay q [] = ⊥
 IsOnItsWay q (p ∷ ps) = (q ≡ p) ⊎ IsOnItsWay q ps
@@ -72,10 +74,12 @@ waiting_slots (Owns n h Asked) = 1
 waiting_slots (Owns n h Poisoned) = 1
 waiting_slots s = 0
 
+-- the slot is one to read
 abbrev pub IsReading : Slot → Type 0
 IsReading (Reads n h phase) = Unit {0}
 IsReading s = ⊥
 
+-- the slot is one to own
 abbrev pub IsOwning : Slot → Type 0
 IsOwning (Owns n h phase) = Unit {0}
 IsOwning s = ⊥
@@ -96,6 +100,7 @@ CountsAdd NoAcks counting announced = Unit {0}
 CountsAdd (Counting got owed) counting announced = got + counting ≡ announced
 CountsAdd (Expects expected got owed) counting announced = got + counting ≡ expected
 
+-- the counts of cluster c add up
 abbrev pub CountIsExact : ℕ → Machine → ℕ → Type 0
 CountIsExact l m c = CountsAdd (cell_at l m c).acks (counting_for l m c) (weigh (counts_to c) (on l m.net))
 
@@ -115,6 +120,7 @@ pub data HasThing (l : ℕ) (m : Machine) (c : ℕ) : Type 0 where
   BySlot : (n h : ℕ) (d : Line) → (cell_at l m c).slot ≡ Reads n h (Came d) → HasThing l m c
   ByData : (n h : ℕ) → (cell_at l m c).slot ≡ Reads n h Asked → 1 ≤ weigh (datas c) (on l m.net) → HasThing l m c
 
+-- the entry marks cluster c
 abbrev pub IsMarked : ℕ → Entry → Type 0
 IsMarked c (SharedBy cs) = member c cs ≡ true
 IsMarked c e = ⊥
@@ -131,6 +137,7 @@ pub record OneEpoch (w : Config) (l : ℕ) (m : Machine) : Type 0 where
   pub entry : (q : Packet) (k : LineId) (r : ClusterId) → IsOnItsWay q (on l m.net) → q.msg ≡ Inval k r → (home_at w l m).entry ≡ Dirty r.0
   pub acks : (q : Packet) (k : LineId) (r : ClusterId) → IsOnItsWay q (on l m.net) → q.msg ≡ Inval k r → (cell_at l m r.0).acks ≢ NoAcks
 
+-- the facts of line l at version v
 pub record LineFacts (w : Config) (l v : ℕ) (m : Machine) : Type 0 where
   pub token : Token w l v m
   pub entry : EntryKnows w l m

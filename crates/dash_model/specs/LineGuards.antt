@@ -7,12 +7,14 @@ use Rattle.dash_model.specs.Part.{Part}
 use Rattle.dash_model.specs.Words.{held_by, Room}
 use Rattle.dash_model.specs.Wants.{NeedsCopy, NeedsOwn, Wants, MayAsk}
 
+-- BusRead: the hart needs a copy, which its cluster has
 pub record BusReadFits (w : Config) (c h l : ℕ) (p : Part) : Type 0 where
   pub mine : cluster_of w h ≡ c
   pub need : NeedsCopy w h l p
   pub copy : has_copy (p.cells l).copy ≡ true
   pub room : Room w h l p
 
+-- BusOwn: the hart needs to own the line, of which its cluster has an owner
 pub record BusOwnFits (w : Config) (c h l : ℕ) (p : Part) : Type 0 where
   pub mine : cluster_of w h ≡ c
   pub need : NeedsOwn w h l p
@@ -29,6 +31,7 @@ pub record EvictFits (w : Config) (c h l : ℕ) (p : Part) : Type 0 where
   pub wants : Wants w h other p
   pub free : ((p.cells l).acks ≡ NoAcks) ⊎ (is_owner h (p.cells l).copy ≡ false)
 
+-- Ask: the slot may ask
 pub record AskFits (w : Config) (c n h l : ℕ) (own : Bool) (p : Part) : Type 0 where
   pub mine : cluster_of w h ≡ c
   pub may : MayAsk w c n h l own p
@@ -45,6 +48,7 @@ HasCome n h (Reads m t (Came d)) = (m ≡ n) × (t ≡ h)
 HasCome n h (Owns m t (Came d)) = (m ≡ n) × (t ≡ h)
 HasCome n h slot = ⊥
 
+-- the guard of Install
 pub record InstallFits (w : Config) (c n h l : ℕ) (p : Part) : Type 0 where
   pub mine : cluster_of w h ≡ c
   pub came : HasCome n h (p.cells l).slot

@@ -13,6 +13,7 @@ abbrev pub IsLocalRun : Config → ℕ → Part → List Step → Type 0
 IsLocalRun w c p [] = Unit {0}
 IsLocalRun w c p (g ∷ gs) = Steps w c g p × IsLocalRun w c (part_after w c g p) gs
 
+-- the part that they lead to
 abbrev pub part_at : Config → ℕ → Part → List Step → Part
 part_at w c p [] = p
 part_at w c p (g ∷ gs) = part_at w c (part_after w c g p) gs
@@ -26,6 +27,7 @@ sent_in w c p (g ∷ gs) = sends w c g p ++ sent_in w c (part_after w c g p) gs
 abbrev pub takes : ℕ → Step → List Packet
 takes c g = taken c g.stamp g.event.kind
 
+-- all that a cluster takes
 unfoldable pub received_in : ℕ → List Step → List Packet
 received_in c [] = []
 received_in c (g ∷ gs) = takes c g ++ received_in c gs
@@ -45,6 +47,7 @@ unfoldable pub of_cluster : ℕ → List Step → List Step
 of_cluster c [] = []
 of_cluster c (g ∷ gs) = cond (by g == c) (g ∷ of_cluster c gs) (of_cluster c gs)
 
+-- the events of cluster c
 unfoldable pub events_of : ℕ → List Event → List Event
 events_of c [] = []
 events_of c (e ∷ es) = cond (e.cluster.0 == c) (e ∷ events_of c es) (events_of c es)

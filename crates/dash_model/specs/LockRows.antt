@@ -30,5 +30,6 @@ answered h false d p = p
 abbrev pub own_queue : Config → ℕ → Part → ℕ → ℕ
 own_queue w c p i = cond (lock_home w i == c) (length (p.locks i).queue) 0
 
+-- how many wait at home c in all
 abbrev pub waiting : Config → ℕ → Part → ℕ
 waiting w c p = total (own_queue w c p) w.top.locks

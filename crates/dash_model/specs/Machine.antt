@@ -13,6 +13,7 @@ use Rattle.dash_model.specs.HartRows.{Performed}
 use Rattle.dash_model.specs.Row.{row}
 use Rattle.dash_model.specs.Guard.{Guard}
 
+-- parts by cluster; messages in the order in which they were sent; bytes
 pub record Machine : Type 0 where
   pub parts : ℕ → Part
   pub net : List Packet
@@ -24,9 +25,11 @@ pub record Step : Type 0 where
   pub stamp : ℕ
   pub done : Performed
 
+-- the event of a step
 abbrev pub event_of : Step → Event
 event_of g = g.event
 
+-- the cluster of a step
 abbrev pub by : Step → ℕ
 by g = g.event.cluster.0
 
@@ -56,6 +59,7 @@ abbrev pub stamp_of : List Packet → ℕ
 stamp_of [] = 0
 stamp_of (q ∷ qs) = q.stamp
 
+-- the stamp after these two
 abbrev pub next_stamp : ℕ → ℕ → ℕ
 next_stamp last u = raised most (max last u)
 
@@ -63,6 +67,7 @@ next_stamp last u = raised most (max last u)
 abbrev pub part_after : Config → ℕ → Step → Part → Part
 part_after w c g p = record (row w c g.event.kind g.done p).part { last = g.event.stamp }
 
+-- what a step of cluster c sends
 abbrev pub sends : Config → ℕ → Step → Part → List Packet
 sends w c g p = map (packet g.event.stamp c) (row w c g.event.kind g.done p).sent
 
@@ -95,6 +100,7 @@ abbrev pub AreSteps : Config → Machine → List Step → Type 0
 AreSteps w m [] = Unit {0}
 AreSteps w m (g ∷ gs) = CanHappen w m g × AreSteps w (after w m g) gs
 
+-- the state that steps lead to
 abbrev pub state_after : Config → Machine → List Step → Machine
 state_after w m [] = m
 state_after w m (g ∷ gs) = state_after w (after w m g) gs
@@ -103,10 +109,12 @@ state_after w m (g ∷ gs) = state_after w (after w m g) gs
 abbrev pub Precedes : Event → Event → Type 0
 Precedes e f = (e.stamp < f.stamp) ⊎ ((e.stamp ≡ f.stamp) × (e.cluster.0 < f.cluster.0))
 
+-- an event precedes each of these
 abbrev pub PrecedesAll : Event → List Event → Type 0
 PrecedesAll e [] = Unit {0}
 PrecedesAll e (f ∷ fs) = Precedes e f × PrecedesAll e fs
 
+-- each event precedes all that follow
 abbrev pub IsRising : List Event → Type 0
 IsRising [] = Unit {0}
 IsRising (e ∷ es) = PrecedesAll e es × IsRising es

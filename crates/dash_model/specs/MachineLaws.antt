@@ -29,6 +29,7 @@ pub record IsQueue (a b : ℕ) (k : Class) (net : List Packet) : Type 0 where
   pub tail_of_other : (c d : ℕ) (j : Class) → ((c ≡ a) × (d ≡ b) × (j ≡ k) → ⊥) → lane a b k (tail c d j net) ≡ lane a b k net
   pub joins : (t c : ℕ) (ss : List Sent) → lane a b k (send net t c ss) ≡ lane a b k net ++ lane a b k (map (packet t c) ss)
 
+-- each lane is a queue
 abbrev pub LanesAreQueues : Type 0
 LanesAreQueues = (a b : ℕ) (k : Class) (net : List Packet) → IsQueue a b k net
 
@@ -47,6 +48,7 @@ pub record ChangesOnePart (w : Config) (m : Machine) (g : Step) : Type 0 where
   pub others : (a b : ℕ) (k : Class) → a ≢ g.event.cluster.0 → lane a b k (sends w g.event.cluster.0 g (m.parts g.event.cluster.0)) ≡ []
   pub console : (after w m g).console ≡ m.console ++ puts g.event.kind
 
+-- each step does so
 abbrev pub StepsChangeOnePart : Type 0
 StepsChangeOnePart = (w : Config) (m : Machine) (g : Step) → CanHappen w m g → ChangesOnePart w m g
 
@@ -60,6 +62,7 @@ StampsFrom c last [] = Unit {0}
 StampsFrom c last (g ∷ gs) =
     IsAbove g.event.stamp last × IsAbove g.event.stamp (stamp_of (taken c g.stamp g.event.kind)) × StampsFrom c g.event.stamp gs
 
+-- the stamps of a cluster's own run rise
 abbrev pub StampsRise : Type 0
 StampsRise = (w : Config) (c : ℕ) (p : Part) (gs : List Step) → IsLocalRun w c p gs → StampsFrom c p.last gs
 
@@ -75,6 +78,7 @@ pub record Grows (w : Config) (c : ℕ) (p : Part) (gs : List Step) (g : Step) :
   pub sent : sent_in w c p (gs ++ g ∷ []) ≡ sent_in w c p gs ++ sends w c g (part_at w c p gs)
   pub received : received_in c (gs ++ g ∷ []) ≡ received_in c gs ++ takes c g
 
+-- each step that the part allows does so
 abbrev pub LocalRunsGrow : Type 0
 LocalRunsGrow = (w : Config) (c : ℕ) (p : Part) (gs : List Step) (g : Step) → IsLocalRun w c p gs → Steps w c g (part_at w c p gs) → Grows w c p gs g
 

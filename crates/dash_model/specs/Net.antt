@@ -14,6 +14,7 @@ pub record Packet : Type 0 where
   pub msg : Msg
   pub stamp : ℕ
 
+-- whether two classes are one
 abbrev pub same_class : Class → Class → Bool
 same_class Request Request = true
 same_class Reply Reply = true
@@ -43,6 +44,7 @@ abbrev pub first : List Packet → Option Packet
 first [] = None
 first (p ∷ ps) = Some p
 
+-- all but the first
 abbrev pub rest : List Packet → List Packet
 rest [] = []
 rest (p ∷ ps) = ps
@@ -59,5 +61,6 @@ packet stamp a s = record { src = a; dst = s.to.0; msg = s.msg; stamp = stamp }
 unfoldable pub send : List Packet → ℕ → ℕ → List Sent → List Packet
 send net stamp a ss = net ++ map (packet stamp a) ss
 
+-- a packet from a to b with the stamp u
 abbrev pub parcel : ℕ → ℕ → Msg → ℕ → Packet
 parcel a b m u = record { src = a; dst = b; msg = m; stamp = u }

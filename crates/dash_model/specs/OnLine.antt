@@ -1,4 +1,4 @@
--- The messages of a line on their way, and how many of each kind concern a cluster x. A message goes from a to b.
+-- The messages of a line on their way, and how many of each kind concern a cluster x: of a message from a to b, and of a packet.
 use Rattle.std.specs.Prelude.{ℕ, ◌+◌, ◌==◌, Bool, false, cond, Some, List, [], ◌∷◌}
 use Rattle.dash_msg.specs.declared.msg.Msg.{Msg}
 use Rattle.dash_msg.specs.declared.msg.Msg.TheVariants.{Read, ReadEx, FwdRead, FwdReadEx, Inval, WriteBack, SharingBack, Transfer, LockAsk, Unlock, Data, DataEx, Ack, TransferAck, Nak, LockGrant, UnlockAck}

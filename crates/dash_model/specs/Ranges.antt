@@ -12,12 +12,15 @@ use Rattle.dash_model.specs.Cell.{Acks, NoAcks, Counting, Expects}
 use Rattle.dash_model.specs.Part.{Part}
 use Rattle.dash_model.specs.LockRows.{waiting}
 
+-- a line of memory
 abbrev pub has_line : Config → LineId → Bool
 has_line w l = nat_lt l.0 (lines w)
 
+-- a cluster of the machine
 abbrev pub has_cluster : Config → ClusterId → Bool
 has_cluster w r = nat_lt r.0 w.top.clusters
 
+-- a hart of the machine
 abbrev pub has_hart : Config → HartId → Bool
 has_hart w h = nat_lt h.0 (all_harts w)
 
@@ -66,5 +69,6 @@ has_space w c (Ack l) p = got_fits (p.cells l.0).acks
 has_space w c (TransferAck l) p = got_fits (p.cells l.0).acks
 has_space w c m p = true
 
+-- a case applies
 abbrev pub applies : Config → ℕ → Msg → Part → Bool
 applies w c m p = in_range w c m && has_space w c m p

@@ -10,6 +10,7 @@ arrive k d (Reads n h Asked) = Reads n h (Came d)
 arrive k d (Reads n h Poisoned) = refuse k (Reads n h Poisoned)
 arrive k d s = s
 
+-- the row of Data
 abbrev pub data_row : ℕ → Line → Cell → Home → Did
 data_row k d a b = record { cell = record a { slot = arrive k d a.slot }; home = b; sent = [] }
 
@@ -24,10 +25,12 @@ expecting n NoAcks = NoAcks
 expecting n (Counting g o) = cond (g == n) NoAcks (Expects n g o)
 expecting n (Expects m g o) = cond (g == n) NoAcks (Expects n g o)
 
+-- only a slot that is to own the line and waits for it sets the number
 abbrev pub expecting_for : ℕ → Slot → Acks → Acks
 expecting_for n (Owns k h Asked) a = expecting n a
 expecting_for n s a = a
 
+-- the row of DataEx
 abbrev pub data_ex_row : Line → ℕ → Cell → Home → Did
 data_ex_row d n a b = record { cell = record a { slot = arrive_own d a.slot; acks = expecting_for n a.slot a.acks }; home = b; sent = [] }
 
@@ -37,6 +40,7 @@ counted NoAcks = NoAcks
 counted (Counting g o) = Counting (g + 1) o
 counted (Expects n g o) = cond (g + 1 == n) NoAcks (Expects n (g + 1) o)
 
+-- the row of Ack and TransferAck
 abbrev pub ack_row : Cell → Home → Did
 ack_row a b = record { cell = record a { acks = counted a.acks }; home = b; sent = [] }
 
@@ -48,10 +52,12 @@ nak_slot k (Owns n h Asked) = refuse k (Owns n h Asked)
 nak_slot k (Owns n h Poisoned) = refuse k (Owns n h Poisoned)
 nak_slot k s = s
 
+-- the acknowledgements of such a slot
 abbrev pub nak_acks : ℕ → Slot → Acks → Acks
 nak_acks k (Owns n h Asked) a = refuse_acks k (Owns n h Asked) a
 nak_acks k (Owns n h Poisoned) a = refuse_acks k (Owns n h Poisoned) a
 nak_acks k s a = a
 
+-- the row of Nak
 abbrev pub nak_row : ℕ → Cell → Home → Did
 nak_row k a b = record { cell = record a { slot = nak_slot k a.slot; acks = nak_acks k a.slot a.acks }; home = b; sent = [] }

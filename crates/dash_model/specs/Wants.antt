@@ -52,6 +52,7 @@ pub record StoreNeed (w : Config) (h l : ℕ) (p : Part) : Type 0 where
   pub oldest : HeadIn w l (p.harts h).buffer
   pub lacks : in_m h (p.cells l).copy ≡ false
 
+-- hart h needs to own line l
 abbrev pub NeedsOwn : Config → ℕ → ℕ → Part → Type 0
 NeedsOwn w h l p = FrontNeed w h l p ⊎ StoreNeed w h l p
 

@@ -29,6 +29,7 @@ msg_weight n (Nak l) = 1
 msg_weight n (LockGrant h) = 1
 msg_weight n (UnlockAck h old) = 1
 
+-- a packet, by its message
 abbrev pub packet_weight : ℕ → Packet → ℕ
 packet_weight n p = msg_weight n p.msg
 
@@ -43,6 +44,7 @@ abbrev pub copy_weight : Copy → ℕ
 copy_weight (Held hs o d) = 2 * length hs
 copy_weight NoCopy = 0
 
+-- a line at a cluster
 abbrev pub cell_weight : Cell → ℕ
 cell_weight a = slot_weight a.slot + copy_weight a.copy
 
@@ -50,5 +52,6 @@ cell_weight a = slot_weight a.slot + copy_weight a.copy
 abbrev pub part_weight : Config → Part → ℕ
 part_weight w p = total (λ l. cell_weight (p.cells l)) (lines w) + total (λ i. 2 * length (p.locks i).queue) w.top.locks
 
+-- the whole machine
 unfoldable pub weight_of : Config → Machine → ℕ
 weight_of w m = weigh (packet_weight w.top.clusters) m.net + total (λ c. part_weight w (m.parts c)) w.top.clusters
