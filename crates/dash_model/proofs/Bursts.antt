@@ -2,6 +2,7 @@
 use Rattle.std.proofs.Common.{◌≡◌, ◌≢◌, ℕ, ◌+◌, ◌≤◌, ◌==◌, ◌||◌, Bool, true, false, not, cond, List, [], ◌∷◌, ◌++◌, length, map, refl, ap, arith}
 use Rattle.std.proofs.lemmas.Bool.Decides.{nat_tests}
 use Rattle.dash_base.specs.declared.id.LineId.{LineId}
+use Rattle.dash_base.specs.declared.line.Line.{Line}
 use Rattle.dash_msg.specs.declared.msg.Msg.TheVariants.{Inval}
 use Rattle.dash_msg.specs.declared.parcel.Sent.{Sent}
 use Rattle.dash_model.specs.Maps.{weigh, member, without}
@@ -113,13 +114,13 @@ unfolding burst weigh invals_to without member
 invals_at-burst x l t a r [] n m = absurd (cc)
 invals_at-burst x l t a r (c ∷ cs) n m = at_tail x l t a r c cs (c == r) (c == x) refl refl n m (λ k. invals_at-burst x l t a r cs n k)
 
-pub old_brings-burst : (v x : ℕ) (l : LineId) (t a r : ℕ) (cs : List ℕ) → weigh (old_brings v x) (burst l t a r cs) ≡ 0
+pub old_brings-burst : (v : Line) (x : ℕ) (l : LineId) (t a r : ℕ) (cs : List ℕ) → weigh (old_brings v x) (burst l t a r cs) ≡ 0
 old_brings-burst v x l t a r cs = free (old_brings v x) l t a r (λ c. refl) cs
 
-pub old_backs-burst : (v x : ℕ) (l : LineId) (t a r : ℕ) (cs : List ℕ) → weigh (old_backs v x) (burst l t a r cs) ≡ 0
+pub old_backs-burst : (v : Line) (x : ℕ) (l : LineId) (t a r : ℕ) (cs : List ℕ) → weigh (old_backs v x) (burst l t a r cs) ≡ 0
 old_backs-burst v x l t a r cs = free (old_backs v x) l t a r (λ c. refl) cs
 
-pub old_datas-burst : (v x : ℕ) (l : LineId) (t a r : ℕ) (cs : List ℕ) → weigh (old_datas v x) (burst l t a r cs) ≡ 0
+pub old_datas-burst : (v : Line) (x : ℕ) (l : LineId) (t a r : ℕ) (cs : List ℕ) → weigh (old_datas v x) (burst l t a r cs) ≡ 0
 old_datas-burst v x l t a r cs = free (old_datas v x) l t a r (λ c. refl) cs
 
 pub ruleset vbursts = (send-burst, old_brings-burst, old_backs-burst, old_datas-burst)

@@ -75,4 +75,4 @@ cases_apply w log m g f x l i o r h e =
     let k = each_reached w log m l i r in
     let first : head f.0 g.event.cluster.0 (class_of x) m.net ≡ Some (record { src = f.0; dst = g.event.cluster.0; msg = x; stamp = g.stamp }) =
     subst (λ y. AtHead (taken g.event.cluster.0 g.stamp y) m.net) e h.head in
-    case_applies w l _ g.event.cluster.0 f.0 g.stamp x (m.parts g.event.cluster.0) (along w l m) i o (on-head l f.0 g.event.cluster.0 (class_of x) (record { src = f.0; dst = g.event.cluster.0; msg = x; stamp = g.stamp }) m.net o first) refl k.invariant k.bounded
+    case_applies w l _ g.event.cluster.0 f.0 g.stamp x (m.parts g.event.cluster.0) (along w l m) i o (on-head l f.0 g.event.cluster.0 (class_of x) (record { src = f.0; dst = g.event.cluster.0; msg = x; stamp = g.stamp }) m.net o first) refl k.holds.invariant k.holds.bounded

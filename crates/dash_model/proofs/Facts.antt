@@ -8,6 +8,7 @@ use Rattle.dash_model.specs.Net.{Packet}
 use Rattle.dash_model.specs.OnLine.{came_own, owned, clean, one, reads, datas, wants, brings, naks, gives_back, leaves, gains, invals, invals_at, acks_to, counts_to, shares}
 use Rattle.dash_model.specs.Cell.{Copy, NoCopy, Held, Asked, Poisoned, Came, Refused, Slot, Reads, Owns, Acks, NoAcks, Counting, Expects, Entry, SharedBy, Dirty}
 use Rattle.dash_model.proofs.LineState.{State}
+use Rattle.dash_model.proofs.SameLine.{same_line}
 
 -- weights of messages: those that ask to read for x, those with a copy for x, and so on; each message from a to b
 abbrev pub own_invals_msg : ℕ → ℕ → ℕ → Msg → ℕ
@@ -160,52 +161,52 @@ things s x = held (s.cells x).copy + came_read (s.cells x).slot + asked (s.cells
 abbrev pub Cover : State → Place → ℕ → Type 0
 Cover s p x = (holds p x ≡ 1) ⊎ ((things s x ≡ 0) ⊎ (1 ≤ marked x s.home.entry + weigh (shares x) s.net + weigh (invals_at x) s.net))
 
--- weights of messages that carry another version than v
-abbrev pub other : ℕ → Line → ℕ
-other v d = cond (d.version == v) 0 1
+-- weights of messages that carry another content than v
+abbrev pub other : Line → Line → ℕ
+other v d = cond (same_line v d) 0 1
 
-abbrev pub old_brings_msg : ℕ → ℕ → ℕ → ℕ → Msg → ℕ
+abbrev pub old_brings_msg : Line → ℕ → ℕ → ℕ → Msg → ℕ
 old_brings_msg v x a b (DataEx l d n) = cond (b == x) (other v d) 0
 old_brings_msg v x a b _ = 0
 
-abbrev pub old_backs_msg : ℕ → ℕ → ℕ → ℕ → Msg → ℕ
+abbrev pub old_backs_msg : Line → ℕ → ℕ → ℕ → Msg → ℕ
 old_backs_msg v x a b (WriteBack l d) = cond (a == x) (other v d) 0
 old_backs_msg v x a b (SharingBack l d r) = cond (a == x) (other v d) 0
 old_backs_msg v x a b _ = 0
 
-abbrev pub old_datas_msg : ℕ → ℕ → ℕ → ℕ → Msg → ℕ
+abbrev pub old_datas_msg : Line → ℕ → ℕ → ℕ → Msg → ℕ
 old_datas_msg v x a b (Data l d) = cond (b == x) (other v d) 0
 old_datas_msg v x a b _ = 0
 
-abbrev pub old_brings : ℕ → ℕ → Packet → ℕ
+abbrev pub old_brings : Line → ℕ → Packet → ℕ
 old_brings v x p = old_brings_msg v x p.src p.dst p.msg
 
-abbrev pub old_backs : ℕ → ℕ → Packet → ℕ
+abbrev pub old_backs : Line → ℕ → Packet → ℕ
 old_backs v x p = old_backs_msg v x p.src p.dst p.msg
 
-abbrev pub old_datas : ℕ → ℕ → Packet → ℕ
+abbrev pub old_datas : Line → ℕ → Packet → ℕ
 old_datas v x p = old_datas_msg v x p.src p.dst p.msg
 
-abbrev pub owner_off : Copy → ℕ → ℕ
+abbrev pub owner_off : Copy → Line → ℕ
 owner_off (Held hs (Some o) d) v = other v d
 owner_off _ v = 0
 
-abbrev pub shared_off : Copy → ℕ → ℕ
+abbrev pub shared_off : Copy → Line → ℕ
 shared_off (Held hs None d) v = other v d
 shared_off _ v = 0
 
-abbrev pub came_off : Slot → ℕ → ℕ
+abbrev pub came_off : Slot → Line → ℕ
 came_off (Owns n t (Came d)) v = other v d
 came_off _ v = 0
 
-abbrev pub read_off : Slot → ℕ → ℕ
+abbrev pub read_off : Slot → Line → ℕ
 read_off (Reads n t (Came d)) v = other v d
 read_off _ v = 0
 
--- the token has version v, and so has all that is to be read, unless an Inval is on its way to it
-pub record Versions (s : State) (p : Place) (v x : ℕ) : Type 0 where
+-- the token has content v, and so has all that is to be read, unless an Inval is on its way to it
+pub record Contents (s : State) (p : Place) (v : Line) (x : ℕ) : Type 0 where
   pub brought : weigh (old_brings v x) s.net ≡ 0
   pub given : weigh (old_backs v x) s.net ≡ 0
   pub owner : owner_off (s.cells x).copy v + came_off (s.cells x).slot v ≡ 0
-  pub mem : (at_home p ≡ 0) ⊎ (s.home.mem.version ≡ v)
+  pub mem : (at_home p ≡ 0) ⊎ (other v s.home.mem ≡ 0)
   pub fresh : (1 ≤ weigh (invals_at x) s.net) ⊎ (shared_off (s.cells x).copy v + read_off (s.cells x).slot v + asked (s.cells x).slot (weigh (old_datas v x) s.net) ≡ 0)

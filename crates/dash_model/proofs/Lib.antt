@@ -1,10 +1,11 @@
 pub mod LineState
 pub mod Weigh
+pub mod SameLine
 pub mod Facts
 pub mod Bursts
 pub mod Rows
 pub mod Cover
-pub mod Versions
+pub mod Contents
 pub mod Steps
 pub mod LineSteps
 pub mod Bounds
@@ -13,8 +14,11 @@ pub mod RowsAlong
 pub mod Views
 pub mod Taken
 pub mod Lift
+pub mod Buffers
+pub mod Written
+pub mod Stores
+pub mod Told
 pub mod Reached
-pub mod Counts
 pub mod LineFacts
 pub mod Lanes
 pub mod Effects

@@ -13,14 +13,13 @@ use Rattle.dash_model.specs.Net.{Packet}
 use Rattle.dash_model.specs.OnLine.{one, on, clean, reads, datas, wants, brings, gives_back, leaves, gains, invals, invals_at, counts_to, shares, passes, gains_msg, leaves_msg, passes_msg, invals_msg}
 use Rattle.dash_model.specs.Cell.{Copy, NoCopy, Held, Asked, Poisoned, Came, Refused, Slot, NoSlot, Reads, Owns, Acks, NoAcks, Counting, Expects, Entry, Uncached, SharedBy, Dirty}
 use Rattle.dash_model.specs.Machine.{Machine, Reaches}
-use Rattle.dash_model.specs.History.{version_from, version_of}
-use Rattle.dash_model.specs.LineFacts.{IsOnItsWay, Holder, InMemory, OwnerAt, SlotAt, ComingTo, ReturningFrom, tokens_at, Token, tokens_for, IsOwnedBy, ThereOrComing, Returning, Passed, waiting_slots, IsReading, IsOwning, CountsAdd, HasThing, ByCopy, BySlot, ByData, IsMarked, IsCovered, ByToken, ByMark, BySharing, ByInval, LineFacts}
+use Rattle.dash_model.specs.LineFacts.{IsOnItsWay, IsCurrent, Holder, InMemory, OwnerAt, SlotAt, ComingTo, ReturningFrom, tokens_at, Token, tokens_for, IsOwnedBy, ThereOrComing, Returning, Passed, waiting_slots, IsReading, IsOwning, CountsAdd, HasThing, ByCopy, BySlot, ByData, IsInvalidated, IsMarked, IsCovered, ByToken, ByMark, BySharing, ByInval, LineFacts}
 use Rattle.dash_model.proofs.LineState.{State}
-use Rattle.dash_model.proofs.Facts.{Place, AtHome, At, Back, Moving, Facts, Cover, Versions, Counted, counting, holds, at_home, dirty_of, owner_in, marked, things, held, came_read, asked, other, owner_off, came_off, shared_off, read_off, old_brings, old_backs, old_datas, old_brings_msg, old_backs_msg, old_datas_msg, waits_read, waits_own}
-use Rattle.dash_model.proofs.Versions.{off_not, owner_current}
+use Rattle.dash_model.proofs.Facts.{Place, AtHome, At, Back, Moving, Facts, Cover, Contents, Counted, counting, holds, at_home, dirty_of, owner_in, marked, things, held, came_read, asked, other, owner_off, came_off, shared_off, read_off, old_brings, old_backs, old_datas, old_brings_msg, old_backs_msg, old_datas_msg, waits_read, waits_own}
+use Rattle.dash_model.proofs.Contents.{off_not, owner_current}
 use Rattle.dash_model.proofs.Steps.{Invariant}
 use Rattle.dash_model.proofs.Along.{along, same_or_not}
-use Rattle.dash_model.proofs.Counts.{version-of}
+use Rattle.dash_model.proofs.Told.{current}
 use Rattle.dash_model.proofs.Reached.{each_reached}
 
 -- a message that is on its way weighs
@@ -46,117 +45,96 @@ one_not : (o c : ℕ) → c ≢ o → one o c ≡ 0
 one_not o c n = grind (arith, nat_tests)
 
 -- the other places, where one is the token's
-owner_alone : (w : Config) (l : ℕ) (m : Machine) (o : ℕ) → ((c : ℕ) → tokens_for l m c ≡ one o c) → tokens_at w l m InMemory ≡ 0
-    → ((c : ℕ) → tokens_at w l m (ReturningFrom c) ≡ 0) → tokens_at w l m (SlotAt o) ≡ 0 → tokens_at w l m (ComingTo o) ≡ 0 → (g : Holder)
-    → g ≢ OwnerAt o → tokens_at w l m g ≡ 0
+owner_alone : (w : Config) (l : ℕ) (m : Machine) (o : ℕ) → ((c : ℕ) → tokens_for l m c ≡ one o c) → tokens_at w l m InMemory ≡ 0 → ((c : ℕ) → tokens_at w l m (ReturningFrom c) ≡ 0) → tokens_at w l m (SlotAt o) ≡ 0 → tokens_at w l m (ComingTo o) ≡ 0 → (g : Holder) → g ≢ OwnerAt o → tokens_at w l m g ≡ 0
 owner_alone w l m o f z r a b InMemory n = z
 owner_alone w l m o f z r a b (OwnerAt c) n = let e = f c ∙ one_not o c (λ e. n (ap OwnerAt e)) in omega arith
-owner_alone w l m o f z r a b (SlotAt c) n =
-    elim (same_or_not c o) [ inl e ↦ ap (λ c. tokens_at w l m (SlotAt c)) e ∙ a | inr d ↦ (let e = f c ∙ one_not o c d in omega arith) ]
-owner_alone w l m o f z r a b (ComingTo c) n =
-    elim (same_or_not c o) [ inl e ↦ ap (λ c. tokens_at w l m (ComingTo c)) e ∙ b | inr d ↦ (let e = f c ∙ one_not o c d in omega arith) ]
+owner_alone w l m o f z r a b (SlotAt c) n = elim (same_or_not c o) [ inl e ↦ ap (λ c. tokens_at w l m (SlotAt c)) e ∙ a | inr d ↦ (let e = f c ∙ one_not o c d in omega arith) ]
+owner_alone w l m o f z r a b (ComingTo c) n = elim (same_or_not c o) [ inl e ↦ ap (λ c. tokens_at w l m (ComingTo c)) e ∙ b | inr d ↦ (let e = f c ∙ one_not o c d in omega arith) ]
 owner_alone w l m o f z r a b (ReturningFrom c) n = r c
 
-slot_alone : (w : Config) (l : ℕ) (m : Machine) (o : ℕ) → ((c : ℕ) → tokens_for l m c ≡ one o c) → tokens_at w l m InMemory ≡ 0
-    → ((c : ℕ) → tokens_at w l m (ReturningFrom c) ≡ 0) → tokens_at w l m (OwnerAt o) ≡ 0 → tokens_at w l m (ComingTo o) ≡ 0 → (g : Holder)
-    → g ≢ SlotAt o → tokens_at w l m g ≡ 0
+slot_alone : (w : Config) (l : ℕ) (m : Machine) (o : ℕ) → ((c : ℕ) → tokens_for l m c ≡ one o c) → tokens_at w l m InMemory ≡ 0 → ((c : ℕ) → tokens_at w l m (ReturningFrom c) ≡ 0) → tokens_at w l m (OwnerAt o) ≡ 0 → tokens_at w l m (ComingTo o) ≡ 0 → (g : Holder) → g ≢ SlotAt o → tokens_at w l m g ≡ 0
 slot_alone w l m o f z r a b InMemory n = z
-slot_alone w l m o f z r a b (OwnerAt c) n =
-    elim (same_or_not c o) [ inl e ↦ ap (λ c. tokens_at w l m (OwnerAt c)) e ∙ a | inr d ↦ (let e = f c ∙ one_not o c d in omega arith) ]
+slot_alone w l m o f z r a b (OwnerAt c) n = elim (same_or_not c o) [ inl e ↦ ap (λ c. tokens_at w l m (OwnerAt c)) e ∙ a | inr d ↦ (let e = f c ∙ one_not o c d in omega arith) ]
 slot_alone w l m o f z r a b (SlotAt c) n = let e = f c ∙ one_not o c (λ e. n (ap SlotAt e)) in omega arith
-slot_alone w l m o f z r a b (ComingTo c) n =
-    elim (same_or_not c o) [ inl e ↦ ap (λ c. tokens_at w l m (ComingTo c)) e ∙ b | inr d ↦ (let e = f c ∙ one_not o c d in omega arith) ]
+slot_alone w l m o f z r a b (ComingTo c) n = elim (same_or_not c o) [ inl e ↦ ap (λ c. tokens_at w l m (ComingTo c)) e ∙ b | inr d ↦ (let e = f c ∙ one_not o c d in omega arith) ]
 slot_alone w l m o f z r a b (ReturningFrom c) n = r c
 
-coming_alone : (w : Config) (l : ℕ) (m : Machine) (o : ℕ) → ((c : ℕ) → tokens_for l m c ≡ one o c) → tokens_at w l m InMemory ≡ 0
-    → ((c : ℕ) → tokens_at w l m (ReturningFrom c) ≡ 0) → tokens_at w l m (OwnerAt o) ≡ 0 → tokens_at w l m (SlotAt o) ≡ 0 → (g : Holder)
-    → g ≢ ComingTo o → tokens_at w l m g ≡ 0
+coming_alone : (w : Config) (l : ℕ) (m : Machine) (o : ℕ) → ((c : ℕ) → tokens_for l m c ≡ one o c) → tokens_at w l m InMemory ≡ 0 → ((c : ℕ) → tokens_at w l m (ReturningFrom c) ≡ 0) → tokens_at w l m (OwnerAt o) ≡ 0 → tokens_at w l m (SlotAt o) ≡ 0 → (g : Holder) → g ≢ ComingTo o → tokens_at w l m g ≡ 0
 coming_alone w l m o f z r a b InMemory n = z
-coming_alone w l m o f z r a b (OwnerAt c) n =
-    elim (same_or_not c o) [ inl e ↦ ap (λ c. tokens_at w l m (OwnerAt c)) e ∙ a | inr d ↦ (let e = f c ∙ one_not o c d in omega arith) ]
-coming_alone w l m o f z r a b (SlotAt c) n =
-    elim (same_or_not c o) [ inl e ↦ ap (λ c. tokens_at w l m (SlotAt c)) e ∙ b | inr d ↦ (let e = f c ∙ one_not o c d in omega arith) ]
+coming_alone w l m o f z r a b (OwnerAt c) n = elim (same_or_not c o) [ inl e ↦ ap (λ c. tokens_at w l m (OwnerAt c)) e ∙ a | inr d ↦ (let e = f c ∙ one_not o c d in omega arith) ]
+coming_alone w l m o f z r a b (SlotAt c) n = elim (same_or_not c o) [ inl e ↦ ap (λ c. tokens_at w l m (SlotAt c)) e ∙ b | inr d ↦ (let e = f c ∙ one_not o c d in omega arith) ]
 coming_alone w l m o f z r a b (ComingTo c) n = let e = f c ∙ one_not o c (λ e. n (ap ComingTo e)) in omega arith
 coming_alone w l m o f z r a b (ReturningFrom c) n = r c
 
 -- the token is for cluster o
-for_cluster : (w : Config) (l : ℕ) (m : Machine) (o : ℕ) → ((c : ℕ) → tokens_for l m c ≡ one o c) → tokens_at w l m InMemory ≡ 0
-    → ((c : ℕ) → tokens_at w l m (ReturningFrom c) ≡ 0)
-    → ((tokens_at w l m (OwnerAt o) ≡ 1) × (tokens_at w l m (SlotAt o) ≡ 0) × (tokens_at w l m (ComingTo o) ≡ 0)) ⊎ (((tokens_at w l m (OwnerAt o) ≡ 0) × (tokens_at w l m (SlotAt o) ≡ 1) × (tokens_at w l m (ComingTo o) ≡ 0)) ⊎ ((tokens_at w l m (OwnerAt o) ≡ 0) × (tokens_at w l m (SlotAt o) ≡ 0) × (tokens_at w l m (ComingTo o) ≡ 1)))
-    → OneToken w l m
+for_cluster : (w : Config) (l : ℕ) (m : Machine) (o : ℕ) → ((c : ℕ) → tokens_for l m c ≡ one o c) → tokens_at w l m InMemory ≡ 0 → ((c : ℕ) → tokens_at w l m (ReturningFrom c) ≡ 0) → ((tokens_at w l m (OwnerAt o) ≡ 1) × (tokens_at w l m (SlotAt o) ≡ 0) × (tokens_at w l m (ComingTo o) ≡ 0)) ⊎ (((tokens_at w l m (OwnerAt o) ≡ 0) × (tokens_at w l m (SlotAt o) ≡ 1) × (tokens_at w l m (ComingTo o) ≡ 0)) ⊎ ((tokens_at w l m (OwnerAt o) ≡ 0) × (tokens_at w l m (SlotAt o) ≡ 0) × (tokens_at w l m (ComingTo o) ≡ 1))) → OneToken w l m
 for_cluster w l m o f z r (inl e) = record { holder = OwnerAt o; there = e.0; alone = owner_alone w l m o f z r e.1 e.2 }
 for_cluster w l m o f z r (inr (inl e)) = record { holder = SlotAt o; there = e.1; alone = slot_alone w l m o f z r e.0 e.2 }
 for_cluster w l m o f z r (inr (inr e)) = record { holder = ComingTo o; there = e.2; alone = coming_alone w l m o f z r e.0 e.1 }
 
-home_alone : (w : Config) (l : ℕ) (m : Machine) → ((c : ℕ) → tokens_for l m c ≡ 0) → ((c : ℕ) → tokens_at w l m (ReturningFrom c) ≡ 0) → (g : Holder)
-    → g ≢ InMemory → tokens_at w l m g ≡ 0
+home_alone : (w : Config) (l : ℕ) (m : Machine) → ((c : ℕ) → tokens_for l m c ≡ 0) → ((c : ℕ) → tokens_at w l m (ReturningFrom c) ≡ 0) → (g : Holder) → g ≢ InMemory → tokens_at w l m g ≡ 0
 home_alone w l m f r InMemory n = absurd (n refl)
 home_alone w l m f r (OwnerAt c) n = let e = f c in omega arith
 home_alone w l m f r (SlotAt c) n = let e = f c in omega arith
 home_alone w l m f r (ComingTo c) n = let e = f c in omega arith
 home_alone w l m f r (ReturningFrom c) n = r c
 
-back_alone : (w : Config) (l : ℕ) (m : Machine) (o : ℕ) → ((c : ℕ) → tokens_for l m c ≡ 0) → tokens_at w l m InMemory ≡ 0
-    → ((c : ℕ) → tokens_at w l m (ReturningFrom c) ≡ one o c) → (g : Holder) → g ≢ ReturningFrom o → tokens_at w l m g ≡ 0
+back_alone : (w : Config) (l : ℕ) (m : Machine) (o : ℕ) → ((c : ℕ) → tokens_for l m c ≡ 0) → tokens_at w l m InMemory ≡ 0 → ((c : ℕ) → tokens_at w l m (ReturningFrom c) ≡ one o c) → (g : Holder) → g ≢ ReturningFrom o → tokens_at w l m g ≡ 0
 back_alone w l m o f z r InMemory n = z
 back_alone w l m o f z r (OwnerAt c) n = let e = f c in omega arith
 back_alone w l m o f z r (SlotAt c) n = let e = f c in omega arith
 back_alone w l m o f z r (ComingTo c) n = let e = f c in omega arith
 back_alone w l m o f z r (ReturningFrom c) n = r c ∙ one_not o c (λ e. n (ap ReturningFrom e))
 
-one_token : (w : Config) (l v : ℕ) (m : Machine) (p : Place) → ((x : ℕ) → Facts (home_of w l) (along w l m) p x) → OneToken w l m
-one_token w l v m AtHome k = record { holder = InMemory; there = (k 0).tokens.home; alone = home_alone w l m (λ c. (k c).tokens.token) (λ c. (k c).tokens.back) }
-one_token w l v m (At o) k =
-    for_cluster w l m o (λ c. (k c).tokens.token) (k 0).tokens.home (λ c. (k c).tokens.back) (at_one (tokens_at w l m (OwnerAt o)) (tokens_at w l m (SlotAt o)) (tokens_at w l m (ComingTo o)) ((k o).tokens.token ∙ one_self o))
-one_token w l v m (Back o) k = record { holder = ReturningFrom o; there = (k o).tokens.back ∙ one_self o; alone = back_alone w l m o (λ c. (k c).tokens.token) (k 0).tokens.home (λ c. (k c).tokens.back) }
-one_token w l v m (Moving q o) k =
-    for_cluster w l m o (λ c. (k c).tokens.token) (k 0).tokens.home (λ c. (k c).tokens.back) (at_one (tokens_at w l m (OwnerAt o)) (tokens_at w l m (SlotAt o)) (tokens_at w l m (ComingTo o)) ((k o).tokens.token ∙ one_self o))
+one_token : (w : Config) (l : ℕ) (m : Machine) (p : Place) → ((x : ℕ) → Facts (home_of w l) (along w l m) p x) → OneToken w l m
+one_token w l m AtHome k = record { holder = InMemory; there = (k 0).tokens.home; alone = home_alone w l m (λ c. (k c).tokens.token) (λ c. (k c).tokens.back) }
+one_token w l m (At o) k = for_cluster w l m o (λ c. (k c).tokens.token) (k 0).tokens.home (λ c. (k c).tokens.back) (at_one (tokens_at w l m (OwnerAt o)) (tokens_at w l m (SlotAt o)) (tokens_at w l m (ComingTo o)) ((k o).tokens.token ∙ one_self o))
+one_token w l m (Back o) k = record { holder = ReturningFrom o; there = (k o).tokens.back ∙ one_self o; alone = back_alone w l m o (λ c. (k c).tokens.token) (k 0).tokens.home (λ c. (k c).tokens.back) }
+one_token w l m (Moving q o) k = for_cluster w l m o (λ c. (k c).tokens.token) (k 0).tokens.home (λ c. (k c).tokens.back) (at_one (tokens_at w l m (OwnerAt o)) (tokens_at w l m (SlotAt o)) (tokens_at w l m (ComingTo o)) ((k o).tokens.token ∙ one_self o))
 
 -- contents
-memory_is : (p : Place) (h v : ℕ) (a b : ℕ) → a ≡ at_home p → (at_home p ≡ 0) ⊎ (b ≡ v) → a ≡ 1 → b ≡ v
-memory_is p h v a b e (inl z) f = absurd (omega arith)
-memory_is p h v a b e (inr g) f = g
+memory_is : (p : Place) (v d : Line) (a : ℕ) → a ≡ at_home p → (at_home p ≡ 0) ⊎ (other v d ≡ 0) → a ≡ 1 → d ≡ v
+memory_is p v d a e (inl z) f = absurd (omega arith)
+memory_is p v d a e (inr g) f = off_not v d g
 
-slot_is : (s : Slot) (n h : ℕ) (d : Line) (v r : ℕ) → s ≡ Owns n h (Came d) → r + came_off s v ≡ 0 → d.version ≡ v
+slot_is : (s : Slot) (n h : ℕ) (d v : Line) (r : ℕ) → s ≡ Owns n h (Came d) → r + came_off s v ≡ 0 → d ≡ v
 slot_is s n h d v r e f = let g : r + other v d ≡ 0 = subst (λ s. r + came_off s v ≡ 0) e f in off_not v d (omega arith)
 
 if_same : (c n : ℕ) → cond (c == c) n 0 ≡ n
 if_same c n = let e : (c == c) ≡ true = grind (arith, nat_tests) in ap (λ b. cond b n 0) e
 
-coming_is : (net : List Packet) (v : ℕ) (q : Packet) (k : LineId) (d : Line) (n : ℕ) → weigh (old_brings v q.dst) net ≡ 0 → IsOnItsWay q net
-    → q.msg ≡ DataEx k d n → d.version ≡ v
+coming_is : (net : List Packet) (v : Line) (q : Packet) (k : LineId) (d : Line) (n : ℕ) → weigh (old_brings v q.dst) net ≡ 0 → IsOnItsWay q net → q.msg ≡ DataEx k d n → d ≡ v
 coming_is net v q k d n z at e =
     let some = weigh_at (old_brings v q.dst) net q at in
     let same : old_brings v q.dst q ≡ other v d = ap (λ m. old_brings_msg v q.dst q.src q.dst m) e ∙ if_same q.dst (other v d) in
     off_not v d (omega arith)
 
-returning_is : (net : List Packet) (v : ℕ) (q : Packet) (k : LineId) (d : Line) → weigh (old_backs v q.src) net ≡ 0 → IsOnItsWay q net
-    → q.msg ≡ WriteBack k d → d.version ≡ v
+returning_is : (net : List Packet) (v : Line) (q : Packet) (k : LineId) (d : Line) → weigh (old_backs v q.src) net ≡ 0 → IsOnItsWay q net → q.msg ≡ WriteBack k d → d ≡ v
 returning_is net v q k d z at e =
     let some = weigh_at (old_backs v q.src) net q at in
     let same : old_backs v q.src q ≡ other v d = ap (λ m. old_backs_msg v q.src q.src q.dst m) e ∙ if_same q.src (other v d) in
     off_not v d (omega arith)
 
-sharing_is : (net : List Packet) (v : ℕ) (q : Packet) (k : LineId) (d : Line) (r : ClusterId) → weigh (old_backs v q.src) net ≡ 0 → IsOnItsWay q net
-    → q.msg ≡ SharingBack k d r → d.version ≡ v
+sharing_is : (net : List Packet) (v : Line) (q : Packet) (k : LineId) (d : Line) (r : ClusterId) → weigh (old_backs v q.src) net ≡ 0 → IsOnItsWay q net → q.msg ≡ SharingBack k d r → d ≡ v
 sharing_is net v q k d r z at e =
     let some = weigh_at (old_backs v q.src) net q at in
     let same : old_backs v q.src q ≡ other v d = ap (λ m. old_backs_msg v q.src q.src q.dst m) e ∙ if_same q.src (other v d) in
     off_not v d (omega arith)
 
-pub token : (w : Config) (l v : ℕ) (m : Machine) → Invariant (home_of w l) v (along w l m) → Token w l v m
-token w l v m i =
-    let t = one_token w l v m i.place (λ x. (i.known x).facts) in
+pub token : (w : Config) (log : List Event) (l : ℕ) (v : Line) (m : Machine) → IsCurrent w log l v → Invariant (home_of w l) v (along w l m) → Token w log l m
+token w log l v m is i =
+    let t = one_token w l m i.place (λ x. (i.known x).facts) in
+    let current : (d : Line) → d ≡ v → IsCurrent w log l d = λ d e. subst (IsCurrent w log l) (sym e) is in
     record {
       holder = t.holder;
       there = t.there;
       alone = t.alone;
-      memory = memory_is i.place 0 v (tokens_at w l m InMemory) (along w l m).home.mem.version (i.known 0).facts.tokens.home (i.known 0).versions.mem;
-      owner = λ c hs o d e. owner_current hs o d ((along w l m).cells c).copy v (came_off ((along w l m).cells c).slot v) e (i.known c).versions.owner;
-      slot = λ c n h d e. slot_is ((along w l m).cells c).slot n h d v (owner_off ((along w l m).cells c).copy v) e (i.known c).versions.owner;
-      coming = λ q k d count at e. coming_is (on l m.net) v q k d count (i.known q.dst).versions.brought at e;
-      returning = λ q k d at e. returning_is (on l m.net) v q k d (i.known q.src).versions.given at e;
-      sharing = λ q k d r at e. sharing_is (on l m.net) v q k d r (i.known q.src).versions.given at e;
+      memory = λ e. current (along w l m).home.mem (memory_is i.place v (along w l m).home.mem (tokens_at w l m InMemory) (i.known 0).facts.tokens.home (i.known 0).contents.mem e);
+      owner = λ c hs o d e. current d (owner_current hs o d ((along w l m).cells c).copy v (came_off ((along w l m).cells c).slot v) e (i.known c).contents.owner);
+      slot = λ c n h d e. current d (slot_is ((along w l m).cells c).slot n h d v (owner_off ((along w l m).cells c).copy v) e (i.known c).contents.owner);
+      coming = λ q k d count at e. current d (coming_is (on l m.net) v q k d count (i.known q.dst).contents.brought at e);
+      returning = λ q k d at e. current d (returning_is (on l m.net) v q k d (i.known q.src).contents.given at e);
+      sharing = λ q k d r at e. current d (sharing_is (on l m.net) v q k d r (i.known q.src).contents.given at e);
     }
 
 -- the entry
@@ -170,8 +148,7 @@ passed_on o r a b _ f = refl
 passes_leaves : (o r : ℕ) (net : List Packet) → ((y : ℕ) → y ≢ r → weigh (gains y) net ≡ 0) → weigh (passes o r) net ≡ weigh (leaves o) net
 unfolding weigh
 passes_leaves o r [] f = refl
-passes_leaves o r (p ∷ ps) f =
-    let ih = passes_leaves o r ps (λ y n. let e = f y n in omega arith) in let here = passed_on o r p.src p.dst p.msg (λ y n. let e = f y n in omega arith) in omega arith
+passes_leaves o r (p ∷ ps) f = let ih = passes_leaves o r ps (λ y n. let e = f y n in omega arith) in let here = passed_on o r p.src p.dst p.msg (λ y n. let e = f y n in omega arith) in omega arith
 
 dirty_clean : (o : ℕ) (e : Entry) → e ≡ Dirty o → clean e ≡ 1 → ⊥
 dirty_clean o e f g = let h : clean (Dirty o) ≡ 1 = subst (λ e. clean e ≡ 1) f g in omega arith
@@ -179,16 +156,13 @@ dirty_clean o e f g = let h : clean (Dirty o) ≡ 1 = subst (λ e. clean e ≡ 1
 same_owner : (o q : ℕ) (e : Entry) → e ≡ Dirty o → dirty_of e q ≡ one q q → one q o ≡ 1
 same_owner o q e f g = let h : one o q ≡ one q q = subst (λ e. dirty_of e q ≡ one q q) f g in grind (arith, nat_tests)
 
-owned_by : (w : Config) (l : ℕ) (m : Machine) (o : ℕ) (p : Place) → ((x : ℕ) → Facts (home_of w l) (along w l m) p x)
-    → (along w l m).home.entry ≡ Dirty o → IsOwnedBy l m o
+owned_by : (w : Config) (l : ℕ) (m : Machine) (o : ℕ) (p : Place) → ((x : ℕ) → Facts (home_of w l) (along w l m) p x) → (along w l m).home.entry ≡ Dirty o → IsOwnedBy l m o
 owned_by w l m o AtHome k e = absurd (dirty_clean o (along w l m).home.entry e (k 0).tokens.home)
 owned_by w l m o (At q) k e = ThereOrComing ((k o).tokens.token ∙ same_owner o q (along w l m).home.entry e (k q).tokens.entry)
 owned_by w l m o (Back q) k e = Returning ((k o).tokens.back ∙ same_owner o q (along w l m).home.entry e (k q).tokens.entry)
-owned_by w l m o (Moving q r) k e =
-    Passed r (passes_leaves o r (on l m.net) (λ y n. (k y).tokens.gaining ∙ one_not r y n) ∙ (k o).tokens.leaving ∙ same_owner o q (along w l m).home.entry e (k q).tokens.entry) ((k r).tokens.token ∙ one_self r)
+owned_by w l m o (Moving q r) k e = Passed r (passes_leaves o r (on l m.net) (λ y n. (k y).tokens.gaining ∙ one_not r y n) ∙ (k o).tokens.leaving ∙ same_owner o q (along w l m).home.entry e (k q).tokens.entry) ((k r).tokens.token ∙ one_self r)
 
-clean_home : (w : Config) (l : ℕ) (m : Machine) (p : Place) → ((x : ℕ) → Facts (home_of w l) (along w l m) p x) → clean (along w l m).home.entry ≡ 1
-    → (c : ℕ) → (tokens_for l m c ≡ 0) × (weigh (gives_back c) (on l m.net) ≡ 0)
+clean_home : (w : Config) (l : ℕ) (m : Machine) (p : Place) → ((x : ℕ) → Facts (home_of w l) (along w l m) p x) → clean (along w l m).home.entry ≡ 1 → (c : ℕ) → (tokens_for l m c ≡ 0) × (weigh (gives_back c) (on l m.net) ≡ 0)
 clean_home w l m AtHome k e c = ((k c).tokens.token, (k c).tokens.back)
 clean_home w l m (At o) k e c = absurd (let h = (k c).tokens.home in omega arith)
 clean_home w l m (Back o) k e c = absurd (let h = (k c).tokens.home in omega arith)
@@ -216,10 +190,8 @@ is_owning (Owns n t x) e = tt
 is_owning NoSlot e = absurd (omega arith)
 is_owning (Reads n t x) e = absurd (omega arith)
 
-pub answer : (h : ℕ) (s : State) (p : Place) (c : ℕ) → Facts h s p c
-    → (waits_read (s.cells c).slot + waits_own (s.cells c).slot ≡ waiting_slots (s.cells c).slot) × ((1 ≤ weigh (reads c) s.net + weigh (datas c) s.net → IsReading (s.cells c).slot) × (1 ≤ weigh (wants c) s.net + weigh (brings c) s.net → IsOwning (s.cells c).slot))
-answer h s p c k =
-    (waits (s.cells c).slot (s.cells c).acks (counting c s) (weigh (counts_to c) s.net) (holds p c) k.counts, (λ e. is_reading (s.cells c).slot (let f = k.requests.read in omega arith), λ e. is_owning (s.cells c).slot (let f = k.requests.own in omega arith)))
+pub answer : (h : ℕ) (s : State) (p : Place) (c : ℕ) → Facts h s p c → (waits_read (s.cells c).slot + waits_own (s.cells c).slot ≡ waiting_slots (s.cells c).slot) × ((1 ≤ weigh (reads c) s.net + weigh (datas c) s.net → IsReading (s.cells c).slot) × (1 ≤ weigh (wants c) s.net + weigh (brings c) s.net → IsOwning (s.cells c).slot))
+answer h s p c k = (waits (s.cells c).slot (s.cells c).acks (counting c s) (weigh (counts_to c) s.net) (holds p c) k.counts, (λ e. is_reading (s.cells c).slot (let f = k.requests.read in omega arith), λ e. is_owning (s.cells c).slot (let f = k.requests.own in omega arith)))
 
 adds : (s : Slot) (k : Acks) (a d h : ℕ) → Counted s k a d h → CountsAdd k a d
 adds s NoAcks a d h e = tt
@@ -245,34 +217,24 @@ none_counting NoSlot a d h e = e.0
 none_counting (Reads n t x) a d h e = e.0
 
 -- stale contents
-shared_by : (s : State) (v c : ℕ) (hs : List ℕ) (d : Line) → (s.cells c).copy ≡ Held hs None d
-    → (1 ≤ weigh (invals_at c) s.net) ⊎ (shared_off (s.cells c).copy v + read_off (s.cells c).slot v + asked (s.cells c).slot (weigh (old_datas v c) s.net) ≡ 0)
-    → (d.version ≡ v) ⊎ (1 ≤ weigh (invals_at c) s.net)
+shared_by : (s : State) (v : Line) (c : ℕ) (hs : List ℕ) (d : Line) → (s.cells c).copy ≡ Held hs None d → (1 ≤ weigh (invals_at c) s.net) ⊎ (shared_off (s.cells c).copy v + read_off (s.cells c).slot v + asked (s.cells c).slot (weigh (old_datas v c) s.net) ≡ 0) → (d ≡ v) ⊎ (1 ≤ weigh (invals_at c) s.net)
 shared_by s v c hs d e (inl i) = inr i
 shared_by s v c hs d e (inr z) = let f : shared_off (s.cells c).copy v ≡ other v d = ap (λ x. shared_off x v) e in inl (off_not v d (omega arith))
 
-stale_copy : (s : State) (v c : ℕ) (p : Place) (hs : List ℕ) (o : Option ℕ) (d : Line) → (s.cells c).copy ≡ Held hs o d → Versions s p v c
-    → (d.version ≡ v) ⊎ (1 ≤ weigh (invals_at c) s.net)
+stale_copy : (s : State) (v : Line) (c : ℕ) (p : Place) (hs : List ℕ) (o : Option ℕ) (d : Line) → (s.cells c).copy ≡ Held hs o d → Contents s p v c → (d ≡ v) ⊎ (1 ≤ weigh (invals_at c) s.net)
 stale_copy s v c p hs (Some o) d e k = inl (owner_current hs o d (s.cells c).copy v (came_off (s.cells c).slot v) e k.owner)
 stale_copy s v c p hs None d e k = shared_by s v c hs d e k.fresh
 
-stale_slot : (s : State) (v c n h : ℕ) (d : Line) → (s.cells c).slot ≡ Reads n h (Came d)
-    → (1 ≤ weigh (invals_at c) s.net) ⊎ (shared_off (s.cells c).copy v + read_off (s.cells c).slot v + asked (s.cells c).slot (weigh (old_datas v c) s.net) ≡ 0)
-    → (d.version ≡ v) ⊎ (1 ≤ weigh (invals_at c) s.net)
+stale_slot : (s : State) (v : Line) (c n h : ℕ) (d : Line) → (s.cells c).slot ≡ Reads n h (Came d) → (1 ≤ weigh (invals_at c) s.net) ⊎ (shared_off (s.cells c).copy v + read_off (s.cells c).slot v + asked (s.cells c).slot (weigh (old_datas v c) s.net) ≡ 0) → (d ≡ v) ⊎ (1 ≤ weigh (invals_at c) s.net)
 stale_slot s v c n h d e (inl i) = inr i
 stale_slot s v c n h d e (inr z) = let f : read_off (s.cells c).slot v ≡ other v d = ap (λ x. read_off x v) e in inl (off_not v d (omega arith))
 
-stale_data : (s : State) (v c n h : ℕ) (q : Packet) (k : LineId) (d : Line) → (s.cells c).slot ≡ Reads n h Asked → IsOnItsWay q s.net → q.dst ≡ c
-    → q.msg ≡ Data k d
-    → (1 ≤ weigh (invals_at c) s.net) ⊎ (shared_off (s.cells c).copy v + read_off (s.cells c).slot v + asked (s.cells c).slot (weigh (old_datas v c) s.net) ≡ 0)
-    → (d.version ≡ v) ⊎ (1 ≤ weigh (invals_at c) s.net)
+stale_data : (s : State) (v : Line) (c n h : ℕ) (q : Packet) (k : LineId) (d : Line) → (s.cells c).slot ≡ Reads n h Asked → IsOnItsWay q s.net → q.dst ≡ c → q.msg ≡ Data k d → (1 ≤ weigh (invals_at c) s.net) ⊎ (shared_off (s.cells c).copy v + read_off (s.cells c).slot v + asked (s.cells c).slot (weigh (old_datas v c) s.net) ≡ 0) → (d ≡ v) ⊎ (1 ≤ weigh (invals_at c) s.net)
 stale_data s v c n h q k d e at t g (inl i) = inr i
 stale_data s v c n h q k d e at t g (inr z) =
     let some = weigh_at (old_datas v c) s.net q at in
-    let same : old_datas v c q ≡ other v d = ap (λ m. old_datas_msg v c q.src q.dst m) g ∙ ap (λ b. cond (b == c) (other v d) 0) t
-    ∙ if_same c (other v d) in
-    let wait : asked (s.cells c).slot (weigh (old_datas v c) s.net) ≡ weigh (old_datas v c) s.net =
-    ap (λ x. asked x (weigh (old_datas v c) s.net)) e in
+    let same : old_datas v c q ≡ other v d = ap (λ m. old_datas_msg v c q.src q.dst m) g ∙ ap (λ b. cond (b == c) (other v d) 0) t ∙ if_same c (other v d) in
+    let wait : asked (s.cells c).slot (weigh (old_datas v c) s.net) ≡ weigh (old_datas v c) s.net = ap (λ x. asked x (weigh (old_datas v c) s.net)) e in
     inl (off_not v d (omega arith))
 
 -- coverage
@@ -293,24 +255,19 @@ held_some NoCopy a b n = absurd (n refl)
 held_some (Held hs o d) a b n = omega arith
 
 some_thing : (w : Config) (l : ℕ) (m : Machine) (c : ℕ) → HasThing l m c → 1 ≤ things (along w l m) c
-some_thing w l m c (ByCopy n) =
-    held_some ((along w l m).cells c).copy (came_read ((along w l m).cells c).slot) (asked ((along w l m).cells c).slot (weigh (datas c) (on l m.net))) n
+some_thing w l m c (ByCopy n) = held_some ((along w l m).cells c).copy (came_read ((along w l m).cells c).slot) (asked ((along w l m).cells c).slot (weigh (datas c) (on l m.net))) n
 some_thing w l m c (BySlot n h d e) = let f : came_read ((along w l m).cells c).slot ≡ 1 = ap came_read e in omega arith
-some_thing w l m c (ByData n h e i) =
-    let f : asked ((along w l m).cells c).slot (weigh (datas c) (on l m.net)) ≡ weigh (datas c) (on l m.net) = ap (λ x. asked x (weigh (datas c) (on l m.net))) e in omega arith
+some_thing w l m c (ByData n h e i) = let f : asked ((along w l m).cells c).slot (weigh (datas c) (on l m.net)) ≡ weigh (datas c) (on l m.net) = ap (λ x. asked x (weigh (datas c) (on l m.net))) e in omega arith
 
-covered_by : (w : Config) (l : ℕ) (m : Machine) (c : ℕ)
-    → (1 ≤ marked c (along w l m).home.entry) ⊎ ((1 ≤ weigh (shares c) (on l m.net)) ⊎ (1 ≤ weigh (invals_at c) (on l m.net))) → IsCovered w l m c
+covered_by : (w : Config) (l : ℕ) (m : Machine) (c : ℕ) → (1 ≤ marked c (along w l m).home.entry) ⊎ ((1 ≤ weigh (shares c) (on l m.net)) ⊎ (1 ≤ weigh (invals_at c) (on l m.net))) → IsCovered w l m c
 covered_by w l m c (inl i) = ByMark (no_mark c (along w l m).home.entry i)
 covered_by w l m c (inr (inl i)) = BySharing i
 covered_by w l m c (inr (inr i)) = ByInval i
 
-covered : (w : Config) (l : ℕ) (m : Machine) (p : Place) (c : ℕ) → Facts (home_of w l) (along w l m) p c → Cover (along w l m) p c → HasThing l m c
-    → IsCovered w l m c
+covered : (w : Config) (l : ℕ) (m : Machine) (p : Place) (c : ℕ) → Facts (home_of w l) (along w l m) p c → Cover (along w l m) p c → HasThing l m c → IsCovered w l m c
 covered w l m p c k (inl e) t = ByToken (k.tokens.token ∙ e)
 covered w l m p c k (inr (inl z)) t = absurd (let s = some_thing w l m c t in omega arith)
-covered w l m p c k (inr (inr s)) t =
-    covered_by w l m c (some_of (marked c (along w l m).home.entry) (weigh (shares c) (on l m.net)) (weigh (invals_at c) (on l m.net)) s)
+covered w l m p c k (inr (inr s)) t = covered_by w l m c (some_of (marked c (along w l m).home.entry) (weigh (shares c) (on l m.net)) (weigh (invals_at c) (on l m.net)) s)
 
 -- one epoch
 inval_weighs : (net : List Packet) (q : Packet) (k : LineId) (r : ClusterId) → IsOnItsWay q net → q.msg ≡ Inval k r → 1 ≤ weigh (invals r.0) net
@@ -325,27 +282,27 @@ dirty_entry Uncached r i = absurd (omega arith)
 dirty_entry (SharedBy cs) r i = absurd (omega arith)
 dirty_entry (Dirty o) r i = let f : o ≡ r = grind (arith, nat_tests) in ap Dirty f
 
-epoch_by : (h : ℕ) (s : State) (p : Place) (r : ℕ) → Facts h s p r → 1 ≤ weigh (invals r) s.net → (weigh (invals r) s.net ≡ 0) ⊎ (p ≡ At r)
-    → s.home.entry ≡ Dirty r
+epoch_by : (h : ℕ) (s : State) (p : Place) (r : ℕ) → Facts h s p r → 1 ≤ weigh (invals r) s.net → (weigh (invals r) s.net ≡ 0) ⊎ (p ≡ At r) → s.home.entry ≡ Dirty r
 epoch_by h s p r f i (inl z) = absurd (omega arith)
-epoch_by h s p r f i (inr e) =
-    dirty_entry s.home.entry r (let g : dirty_of s.home.entry r ≡ one r r = f.tokens.entry ∙ ap (λ p. owner_in p r) e in let self = one_self r in omega arith)
+epoch_by h s p r f i (inr e) = dirty_entry s.home.entry r (let g : dirty_of s.home.entry r ≡ one r r = f.tokens.entry ∙ ap (λ p. owner_in p r) e in let self = one_self r in omega arith)
 
-epoch_entry : (h : ℕ) (s : State) (p : Place) (q : Packet) (k : LineId) (r : ClusterId) → Facts h s p r.0 → IsOnItsWay q s.net → q.msg ≡ Inval k r
-    → s.home.entry ≡ Dirty r.0
+epoch_entry : (h : ℕ) (s : State) (p : Place) (q : Packet) (k : LineId) (r : ClusterId) → Facts h s p r.0 → IsOnItsWay q s.net → q.msg ≡ Inval k r → s.home.entry ≡ Dirty r.0
 epoch_entry h s p q k r f at e = epoch_by h s p r.0 f (inval_weighs s.net q k r at e) f.epoch.one_owner
 
-epoch_acks : (h : ℕ) (s : State) (p : Place) (q : Packet) (k : LineId) (r : ClusterId) → Facts h s p r.0 → IsOnItsWay q s.net → q.msg ≡ Inval k r
-    → (s.cells r.0).acks ≢ NoAcks
+epoch_acks : (h : ℕ) (s : State) (p : Place) (q : Packet) (k : LineId) (r : ClusterId) → Facts h s p r.0 → IsOnItsWay q s.net → q.msg ≡ Inval k r → (s.cells r.0).acks ≢ NoAcks
 epoch_acks h s p q k r f at e z =
     let some = inval_weighs s.net q k r at e in
-    let none =
-    none_counting (s.cells r.0).slot (counting r.0 s) (weigh (counts_to r.0) s.net) (holds p r.0) (subst (λ a. Counted (s.cells r.0).slot a (counting r.0 s) (weigh (counts_to r.0) s.net) (holds p r.0)) z f.counts) in
+    let none = none_counting (s.cells r.0).slot (counting r.0 s) (weigh (counts_to r.0) s.net) (holds p r.0) (subst (λ a. Counted (s.cells r.0).slot a (counting r.0 s) (weigh (counts_to r.0) s.net) (holds p r.0)) z f.counts) in
     omega arith
 
-pub facts : (w : Config) (l v : ℕ) (m : Machine) → Invariant (home_of w l) v (along w l m) → LineFacts w l v m
-facts w l v m i = record {
-  token = token w l v m i;
+-- what is the invariant's content is current
+current_or : (w : Config) (log : List Event) (l : ℕ) (v d : Line) (P : Type 0) → IsCurrent w log l v → (d ≡ v) ⊎ P → IsCurrent w log l d ⊎ P
+current_or w log l v d P is (inl e) = inl (subst (IsCurrent w log l) (sym e) is)
+current_or w log l v d P is (inr p) = inr p
+
+pub facts : (w : Config) (log : List Event) (l : ℕ) (v : Line) (m : Machine) → IsCurrent w log l v → Invariant (home_of w l) v (along w l m) → LineFacts w log l m
+facts w log l v m is i = record {
+  token = token w log l v m is i;
   entry = record {
     clean_at_home = clean_home w l m i.place (λ x. (i.known x).facts);
     names = λ o e. owned_by w l m o i.place (λ x. (i.known x).facts) e;
@@ -353,9 +310,9 @@ facts w l v m i = record {
   requests = λ c. let a = answer (home_of w l) (along w l m) i.place c (i.known c).facts in record { one_each = (i.known c).facts.requests.all ∙ a.0; to_read = a.1.0; to_own = a.1.1 };
   counts = λ c. adds ((along w l m).cells c).slot ((along w l m).cells c).acks (counting c (along w l m)) (weigh (counts_to c) (on l m.net)) (holds i.place c) (i.known c).facts.counts;
   stale = λ c. record {
-    copy = λ hs o d e. stale_copy (along w l m) v c i.place hs o d e (i.known c).versions;
-    slot = λ n h d e. stale_slot (along w l m) v c n h d e (i.known c).versions.fresh;
-    coming = λ n h q k d e at t g. stale_data (along w l m) v c n h q k d e at t g (i.known c).versions.fresh;
+    copy = λ hs o d e. current_or w log l v d (IsInvalidated l m c) is (stale_copy (along w l m) v c i.place hs o d e (i.known c).contents);
+    slot = λ n h d e. current_or w log l v d (IsInvalidated l m c) is (stale_slot (along w l m) v c n h d e (i.known c).contents.fresh);
+    coming = λ n h q k d e at t g. current_or w log l v d (IsInvalidated l m c) is (stale_data (along w l m) v c n h q k d e at t g (i.known c).contents.fresh);
   };
   coverage = λ c t. covered w l m i.place c (i.known c).facts (i.known c).covered t;
   one_epoch = record {
@@ -364,6 +321,5 @@ facts w l v m i = record {
   };
 }
 
-pub runs_keep_lines : (w : Config) (log : List Event) (m : Machine) (l : ℕ) → l < lines w → Reaches w log m → LineFacts w l (version_of log l) m
-runs_keep_lines w log m l i r =
-    subst (λ v. LineFacts w l v m) (version-of l log) (facts w l (version_from l 0 log) m (each_reached w log m l i r).invariant)
+pub runs_keep_lines : (w : Config) (log : List Event) (m : Machine) (l : ℕ) → l < lines w → Reaches w log m → LineFacts w log l m
+runs_keep_lines w log m l i r = let k = each_reached w log m l i r in facts w log l k.content m (current w log l k.content k.told) k.holds.invariant

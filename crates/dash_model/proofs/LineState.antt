@@ -52,7 +52,7 @@ abbrev pub CanHappen : Where → State → Event → Type 0
 CanHappen w s (Acts t c act) = MayAct act (s.cells c)
 CanHappen w s (Takes t c f m) = (u : ℕ) × (head f c (class_of m) s.net ≡ Some (parcel f c m u))
 
--- the version of the line after an act
-abbrev pub version_after : ℕ → Act → ℕ
-version_after v (Commit t d) = raised most v
-version_after v _ = v
+-- the content of the line after an act
+abbrev pub content_after : Line → Act → Line
+content_after v (Commit t d) = d
+content_after v _ = v

@@ -2,11 +2,11 @@
 use Rattle.std.proofs.Common.{◌≡◌, ℕ, ◌≤◌, ◌==◌, ◌&&◌, Bool, true, false, cond, Some, refl, sym, ap, subst, arith}
 use Rattle.std.proofs.lemmas.Bool.Decides.{nat_tests}
 use Rattle.dash_base.specs.declared.id.LineId.{LineId}
+use Rattle.dash_base.specs.declared.line.Line.{Line}
 use Rattle.dash_base.specs.declared.id.ClusterId.{ClusterId}
 use Rattle.dash_msg.specs.declared.classes.Class.TheVariants.{Request}
 use Rattle.dash_msg.specs.declared.msg.Msg.{Msg}
 use Rattle.dash_msg.specs.declared.msg.Msg.TheVariants.{Read, ReadEx, FwdRead, FwdReadEx, Inval, WriteBack, SharingBack, Transfer, Data, DataEx, Ack, TransferAck, Nak}
-use Rattle.dash_model.specs.Maps.{raised, most}
 use Rattle.dash_model.specs.Net.{parcel, head, tail}
 use Rattle.dash_model.specs.Cell.{Copy, Held, Acks, NoAcks, Entry, Uncached, SharedBy, Dirty}
 use Rattle.dash_model.specs.Did.{still}
@@ -15,7 +15,7 @@ use Rattle.dash_model.specs.Requests.{read_row, own_row, give_read, give_own, is
 use Rattle.dash_msg.specs.Classes.{class_of}
 use Rattle.dash_msg.specs.declared.msg.Msg.TheVariants.{LockAsk, Unlock, LockGrant, UnlockAck}
 use Rattle.dash_model.specs.OnLine.{clean, one, gives_back, leaves, gains}
-use Rattle.dash_model.proofs.LineState.{State, Where, Acts, Takes, apply, after, MayAct, version_after}
+use Rattle.dash_model.proofs.LineState.{State, Where, Acts, Takes, apply, after, MayAct, content_after}
 use Rattle.dash_model.proofs.Weigh.{cut}
 use Rattle.dash_model.proofs.Facts.{Place, AtHome, At, Back, Moving, Facts, dirty_of, misrouted}
 use Rattle.dash_model.proofs.Rows as rows
@@ -31,15 +31,14 @@ IsLineMsg (UnlockAck h old) = ⊥
 IsLineMsg m = Unit {0}
 
 -- the invariant with another place
-moved : (h v : ℕ) (s : State) (p q : Place) → p ≡ q → ((x : ℕ) → Known h v s p x) → (x : ℕ) → Known h v s q x
+moved : (h : ℕ) (v : Line) (s : State) (p q : Place) → p ≡ q → ((x : ℕ) → Known h v s p x) → (x : ℕ) → Known h v s q x
 moved h v s p q e k x = subst (λ r. Known h v s r x) e (k x)
 
-kept : (h v : ℕ) (s : State) (p : Place) → ((x : ℕ) → Known h v s p x) → Invariant h v s
+kept : (h : ℕ) (v : Line) (s : State) (p : Place) → ((x : ℕ) → Known h v s p x) → Invariant h v s
 kept h v s p k = record { place = p; known = k }
 
 -- where a message that asks the home or tells it comes, is the home
-pub routed : (w : Where) (m : ℕ) (s : State) (c f u : ℕ) (g : Msg) → head f c Request s.net ≡ Some (parcel f c g u)
-    → (misrouted w.home (parcel f c g u) ≡ 0 → c ≡ w.home) → Invariant w.home m s → c ≡ w.home
+pub routed : (w : Where) (m : Line) (s : State) (c f u : ℕ) (g : Msg) → head f c Request s.net ≡ Some (parcel f c g u) → (misrouted w.home (parcel f c g u) ≡ 0 → c ≡ w.home) → Invariant w.home m s → c ≡ w.home
 routed w m s c f u g first h i =
     let less = cut f c Request (parcel f c g u) s.net first (misrouted w.home) in
     let none = (i.known c).facts.requests.routed in
@@ -51,36 +50,22 @@ at_home_of c h f u l e = grind (arith, nat_tests)
 same_home : (h : ℕ) → (h == h) ≡ true
 same_home h = grind (arith, nat_tests)
 
-read_by : (w : Where) (m : ℕ) (s : State) (i f u : ℕ) (l : LineId) (b : Entry) → s.home.entry ≡ b
-    → head f w.home Request s.net ≡ Some (parcel f w.home (Read l) u) → Invariant w.home m s
-    → Invariant w.home m (apply i w.home (read_row l f b (s.cells w.home) s.home) (tail f w.home Request s.net) s)
-read_by w m s i f u l Uncached e first inv =
-    kept w.home m _ AtHome (steps.read_uncached w m s i f u l first e (moved w.home m s inv.place AtHome (rows.clean_place w s inv.place 0 (ap clean e) (inv.known 0).facts) inv.known))
-read_by w m s i f u l (SharedBy cs) e first inv =
-    kept w.home m _ AtHome (steps.read_shared w m s i f u l cs first e (moved w.home m s inv.place AtHome (rows.clean_place w s inv.place 0 (ap clean e) (inv.known 0).facts) inv.known))
+read_by : (w : Where) (m : Line) (s : State) (i f u : ℕ) (l : LineId) (b : Entry) → s.home.entry ≡ b → head f w.home Request s.net ≡ Some (parcel f w.home (Read l) u) → Invariant w.home m s → Invariant w.home m (apply i w.home (read_row l f b (s.cells w.home) s.home) (tail f w.home Request s.net) s)
+read_by w m s i f u l Uncached e first inv = kept w.home m _ AtHome (steps.read_uncached w m s i f u l first e (moved w.home m s inv.place AtHome (rows.clean_place w s inv.place 0 (ap clean e) (inv.known 0).facts) inv.known))
+read_by w m s i f u l (SharedBy cs) e first inv = kept w.home m _ AtHome (steps.read_shared w m s i f u l cs first e (moved w.home m s inv.place AtHome (rows.clean_place w s inv.place 0 (ap clean e) (inv.known 0).facts) inv.known))
 read_by w m s i f u l (Dirty o) e first inv = kept w.home m _ inv.place (steps.read_dirty w m s inv.place i f u l o first inv.known)
 
-own_by : (w : Where) (m : ℕ) (s : State) (i f u : ℕ) (l : LineId) (b : Entry) → s.home.entry ≡ b
-    → head f w.home Request s.net ≡ Some (parcel f w.home (ReadEx l) u) → Invariant w.home m s
-    → Invariant w.home m (apply i w.home (own_row l f b (s.cells w.home) s.home) (tail f w.home Request s.net) s)
-own_by w m s i f u l Uncached e first inv =
-    kept w.home m _ (At f) (steps.own_uncached w m s i f u l first e (moved w.home m s inv.place AtHome (rows.clean_place w s inv.place 0 (ap clean e) (inv.known 0).facts) inv.known))
-own_by w m s i f u l (SharedBy cs) e first inv =
-    kept w.home m _ (At f) (steps.own_shared w m s i f u l cs first e (moved w.home m s inv.place AtHome (rows.clean_place w s inv.place 0 (ap clean e) (inv.known 0).facts) inv.known))
+own_by : (w : Where) (m : Line) (s : State) (i f u : ℕ) (l : LineId) (b : Entry) → s.home.entry ≡ b → head f w.home Request s.net ≡ Some (parcel f w.home (ReadEx l) u) → Invariant w.home m s → Invariant w.home m (apply i w.home (own_row l f b (s.cells w.home) s.home) (tail f w.home Request s.net) s)
+own_by w m s i f u l Uncached e first inv = kept w.home m _ (At f) (steps.own_uncached w m s i f u l first e (moved w.home m s inv.place AtHome (rows.clean_place w s inv.place 0 (ap clean e) (inv.known 0).facts) inv.known))
+own_by w m s i f u l (SharedBy cs) e first inv = kept w.home m _ (At f) (steps.own_shared w m s i f u l cs first e (moved w.home m s inv.place AtHome (rows.clean_place w s inv.place 0 (ap clean e) (inv.known 0).facts) inv.known))
 own_by w m s i f u l (Dirty o) e first inv = kept w.home m _ inv.place (steps.own_dirty w m s inv.place i f u l o first inv.known)
 
-give_read_by : (w : Where) (m : ℕ) (s : State) (i c f u : ℕ) (l : LineId) (r : ClusterId) (a : Copy) (b : Acks) → (s.cells c).copy ≡ a
-    → (s.cells c).acks ≡ b → head f c Request s.net ≡ Some (parcel f c (FwdRead l r) u) → Invariant w.home m s
-    → Invariant w.home m (apply i c (give_read l w.home r.0 a b (s.cells c) s.home) (tail f c Request s.net) s)
-give_read_by w m s i c f u l r (Held hs (Some o) d) NoAcks e g first inv =
-    kept w.home m _ (Back c) (steps.fwd_read_given w m s i c f u l r hs o d first e g (moved w.home m s inv.place (At c) (rows.place_owner w s inv.place c hs o d e g (inv.known c).facts) inv.known))
+give_read_by : (w : Where) (m : Line) (s : State) (i c f u : ℕ) (l : LineId) (r : ClusterId) (a : Copy) (b : Acks) → (s.cells c).copy ≡ a → (s.cells c).acks ≡ b → head f c Request s.net ≡ Some (parcel f c (FwdRead l r) u) → Invariant w.home m s → Invariant w.home m (apply i c (give_read l w.home r.0 a b (s.cells c) s.home) (tail f c Request s.net) s)
+give_read_by w m s i c f u l r (Held hs (Some o) d) NoAcks e g first inv = kept w.home m _ (Back c) (steps.fwd_read_given w m s i c f u l r hs o d first e g (moved w.home m s inv.place (At c) (rows.place_owner w s inv.place c hs o d e g (inv.known c).facts) inv.known))
 give_read_by w m s i c f u l r _ _ e g first inv = kept w.home m _ inv.place (steps.fwd_read_refused w m s inv.place i c f u l r first inv.known)
 
-give_own_by : (w : Where) (m : ℕ) (s : State) (i c f u : ℕ) (l : LineId) (r : ClusterId) (a : Copy) (b : Acks) → (s.cells c).copy ≡ a
-    → (s.cells c).acks ≡ b → head f c Request s.net ≡ Some (parcel f c (FwdReadEx l r) u) → Invariant w.home m s
-    → Invariant w.home m (apply i c (give_own l w.home r.0 a b (s.cells c) s.home) (tail f c Request s.net) s)
-give_own_by w m s i c f u l r (Held hs (Some o) d) NoAcks e g first inv =
-    kept w.home m _ (Moving c r.0) (steps.fwd_read_ex_given w m s i c f u l r hs o d first e g (moved w.home m s inv.place (At c) (rows.place_owner w s inv.place c hs o d e g (inv.known c).facts) inv.known))
+give_own_by : (w : Where) (m : Line) (s : State) (i c f u : ℕ) (l : LineId) (r : ClusterId) (a : Copy) (b : Acks) → (s.cells c).copy ≡ a → (s.cells c).acks ≡ b → head f c Request s.net ≡ Some (parcel f c (FwdReadEx l r) u) → Invariant w.home m s → Invariant w.home m (apply i c (give_own l w.home r.0 a b (s.cells c) s.home) (tail f c Request s.net) s)
+give_own_by w m s i c f u l r (Held hs (Some o) d) NoAcks e g first inv = kept w.home m _ (Moving c r.0) (steps.fwd_read_ex_given w m s i c f u l r hs o d first e g (moved w.home m s inv.place (At c) (rows.place_owner w s inv.place c hs o d e g (inv.known c).facts) inv.known))
 give_own_by w m s i c f u l r _ _ e g first inv = kept w.home m _ inv.place (steps.fwd_read_ex_refused w m s inv.place i c f u l r first inv.known)
 
 -- the entry names who sends the line back, or passes it on
@@ -97,8 +82,7 @@ both true true e f = refl
 both true false e f = f
 both false b e f = absurd (cc)
 
-came_back : (w : Where) (s : State) (p : Place) (c f u : ℕ) (g : Msg) → head f c Request s.net ≡ Some (parcel f c g u)
-    → gives_back f (parcel f c g u) ≡ one f f → Facts w.home s p f → p ≡ Back f
+came_back : (w : Where) (s : State) (p : Place) (c f u : ℕ) (g : Msg) → head f c Request s.net ≡ Some (parcel f c g u) → gives_back f (parcel f c g u) ≡ one f f → Facts w.home s p f → p ≡ Back f
 came_back w s p c f u g first e k =
     let less = cut f c Request (parcel f c g u) s.net first (gives_back f) in
     let some = one_same f in
@@ -116,8 +100,7 @@ move_dirty h s f r k =
     let some = one_same f in
     dirty_is s.home.entry f (omega arith)
 
-pub take_step : (w : Where) (s : State) (m i c f u : ℕ) (g : Msg) → IsLineMsg g → head f c (class_of g) s.net ≡ Some (parcel f c g u)
-    → Invariant w.home m s → Invariant w.home m (after w s (Takes i c f g))
+pub take_step : (w : Where) (s : State) (m : Line) (i c f u : ℕ) (g : Msg) → IsLineMsg g → head f c (class_of g) s.net ≡ Some (parcel f c g u) → Invariant w.home m s → Invariant w.home m (after w s (Takes i c f g))
 take_step w s m i c f u (Read l) o first inv =
     let e : c ≡ w.home = routed w m s c f u (Read l) first (λ z. at_home_of c w.home f u l z) inv in
     subst (λ c. Invariant w.home m (apply i c (cond (c == w.home) (read_row l f s.home.entry (s.cells c) s.home) (still (s.cells c) s.home)) (tail f c Request s.net) s)) (sym e) (subst (λ b. Invariant w.home m (apply i w.home (cond b (read_row l f s.home.entry (s.cells w.home) s.home) (still (s.cells w.home) s.home)) (tail f w.home Request s.net) s)) (sym (same_home w.home)) (read_by w m s i f u l s.home.entry refl (subst (λ c. head f c Request s.net ≡ Some (parcel f c (Read l) u)) e first) inv))
@@ -131,15 +114,13 @@ take_step w s m i c f u (WriteBack l d) o first inv =
     let e : c ≡ w.home = routed w m s c f u (WriteBack l d) first (λ z. at_home_of c w.home f u l z) inv in
     let p = came_back w s inv.place c f u (WriteBack l d) first refl (inv.known f).facts in
     let k = moved w.home m s inv.place (Back f) p inv.known in
-    let t : (c == w.home) && is_dirty_of f s.home.entry ≡ true =
-    both (c == w.home) (is_dirty_of f s.home.entry) (grind (arith, nat_tests)) (back_dirty w.home s f (k f).facts) in
+    let t : (c == w.home) && is_dirty_of f s.home.entry ≡ true = both (c == w.home) (is_dirty_of f s.home.entry) (grind (arith, nat_tests)) (back_dirty w.home s f (k f).facts) in
     subst (λ b. Invariant w.home m (apply i c (write_back_row d b (s.cells c) s.home) (tail f c Request s.net) s)) (sym t) (kept w.home m _ AtHome (steps.write_back w m s i c f u l d first k))
 take_step w s m i c f u (SharingBack l d r) o first inv =
     let e : c ≡ w.home = routed w m s c f u (SharingBack l d r) first (λ z. at_home_of c w.home f u l z) inv in
     let p = came_back w s inv.place c f u (SharingBack l d r) first refl (inv.known f).facts in
     let k = moved w.home m s inv.place (Back f) p inv.known in
-    let t : (c == w.home) && is_dirty_of f s.home.entry ≡ true =
-    both (c == w.home) (is_dirty_of f s.home.entry) (grind (arith, nat_tests)) (back_dirty w.home s f (k f).facts) in
+    let t : (c == w.home) && is_dirty_of f s.home.entry ≡ true = both (c == w.home) (is_dirty_of f s.home.entry) (grind (arith, nat_tests)) (back_dirty w.home s f (k f).facts) in
     subst (λ b. Invariant w.home m (apply i c (sharing_back_row f d r.0 b (s.cells c) s.home) (tail f c Request s.net) s)) (sym t) (kept w.home m _ AtHome (steps.sharing_back w m s i c f u l d r first k))
 take_step w s m i c f u (Transfer l r) o first inv =
     let e : c ≡ w.home = routed w m s c f u (Transfer l r) first (λ z. at_home_of c w.home f u l z) inv in
@@ -149,8 +130,7 @@ take_step w s m i c f u (Transfer l r) o first inv =
     let b = one_same r.0 in
     let p = rows.transfer_of w s inv.place f r.0 (omega arith) (omega arith) (inv.known f).facts (inv.known r.0).facts in
     let k = moved w.home m s inv.place (Moving f r.0) p inv.known in
-    let t : (c == w.home) && is_dirty_of f s.home.entry ≡ true =
-    both (c == w.home) (is_dirty_of f s.home.entry) (grind (arith, nat_tests)) (move_dirty w.home s f r.0 (k f).facts) in
+    let t : (c == w.home) && is_dirty_of f s.home.entry ≡ true = both (c == w.home) (is_dirty_of f s.home.entry) (grind (arith, nat_tests)) (move_dirty w.home s f r.0 (k f).facts) in
     subst (λ b. Invariant w.home m (apply i c (transfer_row l r.0 b (s.cells c) s.home) (tail f c Request s.net) s)) (sym t) (kept w.home m _ (At r.0) (steps.transfer w m s i c f u l r first k))
 take_step w s m i c f u (Data l d) o first inv = kept w.home m _ inv.place (steps.data_comes w m s inv.place i c f u l d first inv.known)
 take_step w s m i c f u (DataEx l d n) o first inv = kept w.home m _ inv.place (steps.data_ex w m s inv.place i c f u l d n first inv.known)
@@ -163,22 +143,19 @@ take_step w s m i c f u (LockGrant h) o first inv = absurd o
 take_step w s m i c f u (UnlockAck h old) o first inv = absurd o
 
 -- a cluster that does nothing to its line
-idle : (w : Where) (m : ℕ) (s : State) (i c : ℕ) → Invariant w.home m s → Invariant w.home m (apply i c (still (s.cells c) s.home) s.net s)
+idle : (w : Where) (m : Line) (s : State) (i c : ℕ) → Invariant w.home m s → Invariant w.home m (apply i c (still (s.cells c) s.home) s.net s)
 idle w m s i c inv = kept w.home m _ inv.place (steps.idle w m s inv.place i c inv.known)
 
-evict_by : (w : Where) (m : ℕ) (s : State) (i c : ℕ) (a : Copy) → (s.cells c).copy ≡ a → (s.cells c).acks ≡ NoAcks → Invariant w.home m s
-    → Invariant w.home m (apply i c (evict_row w.line w.home a (s.cells c) s.home) s.net s)
-evict_by w m s i c (Held hs (Some o) d) e g inv =
-    kept w.home m _ (Back c) (steps.evict w m s i c hs o d e g (moved w.home m s inv.place (At c) (rows.place_owner w s inv.place c hs o d e g (inv.known c).facts) inv.known))
+evict_by : (w : Where) (m : Line) (s : State) (i c : ℕ) (a : Copy) → (s.cells c).copy ≡ a → (s.cells c).acks ≡ NoAcks → Invariant w.home m s → Invariant w.home m (apply i c (evict_row w.line w.home a (s.cells c) s.home) s.net s)
+evict_by w m s i c (Held hs (Some o) d) e g inv = kept w.home m _ (Back c) (steps.evict w m s i c hs o d e g (moved w.home m s inv.place (At c) (rows.place_owner w s inv.place c hs o d e g (inv.known c).facts) inv.known))
 evict_by w m s i c _ e g inv = idle w m s i c inv
 
-pub act_step : (w : Where) (s : State) (m i c : ℕ) (a : Act) → MayAct a (s.cells c) → Invariant w.home m s
-    → Invariant w.home (version_after m a) (after w s (Acts i c a))
+pub act_step : (w : Where) (s : State) (m : Line) (i c : ℕ) (a : Act) → MayAct a (s.cells c) → Invariant w.home m s → Invariant w.home (content_after m a) (after w s (Acts i c a))
 act_step w s m i c (AskRead n t) may inv = kept w.home m _ inv.place (steps.ask_read w m s inv.place i c n t may inv.known)
 act_step w s m i c (AskOwn n t) may inv = kept w.home m _ inv.place (steps.ask_own w m s inv.place i c n t may inv.known)
 act_step w s m i c Again may inv = kept w.home m _ inv.place (steps.again w m s inv.place i c inv.known)
 act_step w s m i c Install may inv = kept w.home m _ inv.place (steps.install w m s inv.place i c inv.known)
-act_step w s m i c (Commit t d) may inv = kept w.home (raised most m) _ inv.place (steps.commit w m s inv.place i c t d may inv.known)
+act_step w s m i c (Commit t d) may inv = kept w.home d _ inv.place (steps.commit w m s inv.place i c t d may inv.known)
 act_step w s m i c (Evict t) may inv = evict_by w m s i c (s.cells c).copy refl may inv
 act_step w s m i c (Drop t) may inv = kept w.home m _ inv.place (steps.drop w m s inv.place i c t may inv.known)
 act_step w s m i c (BusRead t) may inv = kept w.home m _ inv.place (steps.bus_read w m s inv.place i c t inv.known)

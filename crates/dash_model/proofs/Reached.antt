@@ -1,15 +1,23 @@
--- Every run keeps the invariant of each line of memory.
-use Rattle.std.proofs.Common.{ℕ, ◌<◌, List, [], ◌∷◌, map, refl, sym, subst, inl, inr, arith}
+-- Every run keeps the invariant of each line of memory, with the content that the log tells.
+use Rattle.std.proofs.Common.{◌≡◌, ℕ, ◌+◌, ◌<◌, true, cond, None, Some, List, [], ◌∷◌, ◌++◌, map, append-nil, refl, sym, ap, subst, inl, inr, arith}
+use Rattle.std.proofs.lemmas.List.{append_assoc}
+use Rattle.dash_base.specs.declared.line.Line.{Line}
 use Rattle.dash_event.specs.declared.event.Event.{Event}
 use Rattle.dash_model.specs.Maps.{weigh}
-use Rattle.dash_model.specs.Config.{Config, lines, home_of}
-use Rattle.dash_model.specs.Machine.{Machine, Step, event_of, after, opening, AreSteps, state_after, Reaches}
-use Rattle.dash_model.specs.History.{version_by, version_from}
+use Rattle.dash_model.specs.Config.{Config, lines, home_of, opening_line}
+use Rattle.dash_model.specs.Cell.{Copy, NoCopy, Held}
+use Rattle.dash_model.specs.Words.{in_m, content}
+use Rattle.dash_model.specs.Machine.{Machine, Step, event_of, CanHappen, after, opening, AreSteps, state_after, Reaches}
 use Rattle.dash_model.specs.OnLine.{on}
-use Rattle.dash_model.proofs.Facts.{AtHome, Facts, Versions}
+use Rattle.dash_model.proofs.SameLine.{same-self}
+use Rattle.dash_model.proofs.Facts.{AtHome, Facts, Contents, owner_off, came_off}
+use Rattle.dash_model.proofs.Contents.{off_not}
 use Rattle.dash_model.proofs.Bounds.{Bounded}
 use Rattle.dash_model.proofs.Along.{along}
+use Rattle.dash_model.proofs.Views.{content_by}
 use Rattle.dash_model.proofs.Lift.{Holds, keeps_line}
+use Rattle.dash_model.proofs.Stores.{IsListed, Listed, step_listed}
+use Rattle.dash_model.proofs.Told.{Told, Knows, told_step, opening_told}
 
 opening_facts : (w : Config) (l x : ℕ) → Facts (home_of w l) (along w l (opening w)) AtHome x
 unfolding on weigh
@@ -20,25 +28,55 @@ opening_facts w l x = record {
   counts = (refl, refl);
 }
 
-opening_versions : (w : Config) (l x : ℕ) → Versions (along w l (opening w)) AtHome 0 x
+opening_contents : (w : Config) (l x : ℕ) → Contents (along w l (opening w)) AtHome (opening_line w l) x
 unfolding on weigh
-opening_versions w l x = record { brought = refl; given = refl; owner = refl; mem = inr refl; fresh = inr refl }
+opening_contents w l x = record { brought = refl; given = refl; owner = refl; mem = inr (ap (λ b. cond {A = ℕ} b 0 1) (same-self (opening_line w l))); fresh = inr refl }
 
 opening_bounded : (w : Config) (l : ℕ) → Bounded w.top.clusters (along w l (opening w))
 unfolding on
 opening_bounded w l = record { net = tt; entry = tt; acks = λ x. tt }
 
-pub opening_holds : (w : Config) (l : ℕ) → Holds w l 0 (opening w)
+opening_holds : (w : Config) (l : ℕ) → Holds w l (opening_line w l) (opening w)
 opening_holds w l = record {
-  invariant = record { place = AtHome; known = λ x. record { facts = opening_facts w l x; covered = inr (inl refl); versions = opening_versions w l x } };
+  invariant = record { place = AtHome; known = λ x. record { facts = opening_facts w l x; covered = inr (inl refl); contents = opening_contents w l x } };
   bounded = opening_bounded w l;
 }
 
-pub steps_hold : (w : Config) (l v : ℕ) (m : Machine) (gs : List Step) → l < lines w → AreSteps w m gs → Holds w l v m
-    → Holds w l (version_from l v (map event_of gs)) (state_after w m gs)
-steps_hold w l v m [] i s h = h
-steps_hold w l v m (g ∷ gs) i s h = steps_hold w l (version_by l v g.event.kind) (after w m g) gs i s.1 (keeps_line w l v m g i s.0 h)
+-- line l in a state that a run of this log reached
+pub record IsAt (w : Config) (log : List Event) (l : ℕ) (m : Machine) : Type 0 where
+  pub content : Line
+  pub holds : Holds w l content m
+  pub told : Told w log l content
+  pub listed : Listed w log m
 
-pub each_reached : (w : Config) (log : List Event) (m : Machine) (l : ℕ) → l < lines w → Reaches w log m → Holds w l (version_from l 0 log) m
-each_reached w log m l i r =
-    subst (Holds w l (version_from l 0 log)) (sym r.state) (subst (λ es. Holds w l (version_from l 0 es) (state_after w (opening w) r.run.steps)) r.run.events (steps_hold w l 0 (opening w) r.run.steps i r.run.happen (opening_holds w l)))
+opening_at : (w : Config) (l : ℕ) → IsAt w [] l (opening w)
+opening_at w l = record { content = opening_line w l; holds = opening_holds w l; told = opening_told w l; listed = λ h. record { waiting = tt; none = λ n low. refl } }
+
+-- what a hart in state M has is the current content
+owner_has : (h : ℕ) (x : Copy) (v : Line) (r : ℕ) → in_m h x ≡ true → owner_off x v + r ≡ 0 → content x ≡ v
+owner_has h (Held (y ∷ []) (Some o) d) v r e z = off_not v d (omega arith)
+owner_has h (Held (y ∷ []) None d) v r e z = absurd (cc)
+owner_has h (Held [] o d) v r e z = absurd (cc)
+owner_has h (Held (x ∷ y ∷ ys) o d) v r e z = absurd (cc)
+owner_has h NoCopy v r e z = absurd (cc)
+
+step_at : (w : Config) (log : List Event) (l : ℕ) (m : Machine) (g : Step) → l < lines w → CanHappen w m g → IsAt w log l m → IsAt w (log ++ g.event ∷ []) l (after w m g)
+step_at w log l m g i can k =
+    let c = g.event.cluster.0 in
+    let knows : Knows w c log l k.content (m.parts c) = record {
+      listed = λ h mine. subst (λ z. IsListed w log h ((m.parts z).harts h)) mine (k.listed h);
+      owned = λ h e. owner_has h ((m.parts c).cells l).copy k.content (came_off ((m.parts c).cells l).slot k.content) e (k.holds.invariant.known c).contents.owner;
+    } in
+    record {
+      content = content_by w (m.parts c) l k.content g.event.kind;
+      holds = keeps_line w l k.content m g i can k.holds;
+      told = told_step w c log g.event l k.content g.done (m.parts c) g.event.kind refl can.steps.guard knows k.told;
+      listed = step_listed w log m g can k.listed;
+    }
+
+steps_at : (w : Config) (log : List Event) (l : ℕ) (m : Machine) (gs : List Step) → l < lines w → AreSteps w m gs → IsAt w log l m → IsAt w (log ++ map event_of gs) l (state_after w m gs)
+steps_at w log l m [] i s k = subst (λ es. IsAt w es l m) (sym (append-nil log)) k
+steps_at w log l m (g ∷ gs) i s k = subst (λ es. IsAt w es l (state_after w (after w m g) gs)) (append_assoc log (g.event ∷ []) (map event_of gs)) (steps_at w (log ++ g.event ∷ []) l (after w m g) gs i s.1 (step_at w log l m g i s.0 k))
+
+pub each_reached : (w : Config) (log : List Event) (m : Machine) (l : ℕ) → l < lines w → Reaches w log m → IsAt w log l m
+each_reached w log m l i r = subst (IsAt w log l) (sym r.state) (subst (λ es. IsAt w es l (state_after w (opening w) r.run.steps)) r.run.events (steps_at w [] l (opening w) r.run.steps i r.run.happen (opening_at w l)))

@@ -2,6 +2,7 @@
 use Rattle.std.proofs.Common.{◌≡◌, ◌≢◌, ℕ, ◌≤◌, ◌<◌, ◌==◌, ◌&&◌, Bool, true, false, cond, nat_lt, Some, refl, sym, ap, ◌∙◌, subst, arith}
 use Rattle.std.proofs.lemmas.Bool.Decides.{nat_tests}
 use Rattle.dash_base.specs.declared.id.LineId.{LineId}
+use Rattle.dash_base.specs.declared.line.Line.{Line}
 use Rattle.dash_msg.specs.Classes.{class_of}
 use Rattle.dash_msg.specs.declared.classes.Class.TheVariants.{Request, Reply}
 use Rattle.dash_msg.specs.declared.msg.Msg.{Msg}
@@ -44,8 +45,7 @@ pub record LeavesLine (l : ℕ) (p : Part) (d : Done) : Type 0 where
   pub homes : d.part.homes l ≡ p.homes l
   pub sent : AllAre l false d.sent
 
-line_off : (w : Config) (c f : ℕ) (k : LineId) (m : Msg) (p : Part) (l : ℕ) → is_of k.0 m ≡ true → (k.0 == l) ≡ false
-    → LeavesLine l p (takes w c f k m p)
+line_off : (w : Config) (c f : ℕ) (k : LineId) (m : Msg) (p : Part) (l : ℕ) → is_of k.0 m ≡ true → (k.0 == l) ≡ false → LeavesLine l p (takes w c f k m p)
 line_off w c f k m p l o e =
     let n = no_line k.0 l e in
     let t = test_false l k.0 n in
@@ -78,8 +78,7 @@ take_off w c f (Nak k) d p l e = line_off w c f k (Nak k) p l (test_true k.0) e
 take_off w c f (LockGrant h) d p l e = answered_off h.0 l (p.harts h.0).asked d p
 take_off w c f (UnlockAck h old) d p l e = answered_off h.0 l (p.harts h.0).asked d p
 
-pub take_off_if : (w : Config) (c f : ℕ) (m : Msg) (d : Performed) (p : Part) (l : ℕ) (b : Bool) → is_of l m ≡ false
-    → LeavesLine l p (msg_row_if b w c f m d p)
+pub take_off_if : (w : Config) (c f : ℕ) (m : Msg) (d : Performed) (p : Part) (l : ℕ) (b : Bool) → is_of l m ≡ false → LeavesLine l p (msg_row_if b w c f m d p)
 take_off_if w c f m d p l true e = take_off w c f m d p l e
 take_off_if w c f m d p l false e = record { cells = refl; homes = refl; sent = tt }
 
@@ -115,8 +114,7 @@ take_on w c f (Nak k) d p l e = line_on w c f k (Nak k) p l e
 take_on w c f (LockGrant h) d p l e = absurd (cc)
 take_on w c f (UnlockAck h old) d p l e = absurd (cc)
 
-pub take_on_if : (w : Config) (c f : ℕ) (m : Msg) (d : Performed) (p : Part) (l : ℕ) (b : Bool) → b ≡ true → is_of l m ≡ true
-    → IsLineRow w c f m l p (msg_row_if b w c f m d p)
+pub take_on_if : (w : Config) (c f : ℕ) (m : Msg) (d : Performed) (p : Part) (l : ℕ) (b : Bool) → b ≡ true → is_of l m ≡ true → IsLineRow w c f m l p (msg_row_if b w c f m d p)
 take_on_if w c f m d p l true t e = take_on w c f m d p l e
 take_on_if w c f m d p l false t e = absurd (cc)
 
@@ -139,8 +137,7 @@ got_small n a d h (Reads t u x) (Expects m g o) e i j b l = let y = e.1 in grind
 own_one : (s : Slot) → waits_own s ≤ 1
 own_one s = grind arith
 
-fits : (w : Config) (l v c : ℕ) (s : State) → Invariant (home_of w l) v s → Bounded w.top.clusters s → 1 ≤ weigh (acks_to c) s.net
-    → got_fits (s.cells c).acks ≡ true
+fits : (w : Config) (l : ℕ) (v : Line) (c : ℕ) (s : State) → Invariant (home_of w l) v s → Bounded w.top.clusters s → 1 ≤ weigh (acks_to c) s.net → got_fits (s.cells c).acks ≡ true
 fits w l v c s i b some =
     let k = (i.known c).facts in
     let own = k.requests.own in
@@ -160,47 +157,33 @@ line_in : (w : Config) (k : LineId) (l : ℕ) → (k.0 == l) ≡ true → l < li
 line_in w k l e b = below k.0 (lines w) (subst (λ y. y < lines w) (is_line k.0 l e) b)
 
 home_in : (w : Config) (c : ℕ) (k : LineId) (l : ℕ) → (k.0 == l) ≡ true → l < lines w → c ≡ home_of w l → at_home w c k ≡ true
-home_in w c k l e b h =
-    both (has_line w k) (home_of w k.0 == c) (line_in w k l e b) (subst (λ y. (home_of w k.0 == y) ≡ true) (sym (h ∙ ap (home_of w) (is_line k.0 l e))) (test_true (home_of w k.0)))
+home_in w c k l e b h = both (has_line w k) (home_of w k.0 == c) (line_in w k l e b) (subst (λ y. (home_of w k.0 == y) ≡ true) (sym (h ∙ ap (home_of w) (is_line k.0 l e))) (test_true (home_of w k.0)))
 
 one_same : (c : ℕ) → one c c ≡ 1
 one_same c = grind (arith, nat_tests)
 
-acks_come : (s : State) (c f u : ℕ) (m : Msg) → head f c Reply s.net ≡ Some (parcel f c m u) → acks_to c (parcel f c m u) ≡ one c c
-    → 1 ≤ weigh (acks_to c) s.net
+acks_come : (s : State) (c f u : ℕ) (m : Msg) → head f c Reply s.net ≡ Some (parcel f c m u) → acks_to c (parcel f c m u) ≡ one c c → 1 ≤ weigh (acks_to c) s.net
 acks_come s c f u m h e =
     let less = cut f c Reply (parcel f c m u) s.net h (acks_to c) in
     let some = one_same c in
     omega arith
 
 -- a case applies: in a state with the invariant, of a message of a line of memory that is at the head of its lane
-pub case_applies : (w : Config) (l v c f u : ℕ) (m : Msg) (p : Part) (s : State) → l < lines w → is_of l m ≡ true
-    → head f c (class_of m) s.net ≡ Some (parcel f c m u) → p.cells l ≡ s.cells c → Invariant (home_of w l) v s → Bounded w.top.clusters s
-    → applies w c m p ≡ true
-case_applies w l v c f u (Read k) p s b e h q i n =
-    both (in_range w c (Read k)) true (home_in w c k l e b (routed (at w l) v s c f u (Read k) h (λ z. at_home_of c (home_of w l) f u k z) i)) refl
-case_applies w l v c f u (ReadEx k) p s b e h q i n =
-    both (in_range w c (ReadEx k)) true (home_in w c k l e b (routed (at w l) v s c f u (ReadEx k) h (λ z. at_home_of c (home_of w l) f u k z) i)) refl
-case_applies w l v c f u (FwdRead k r) p s b e h q i n =
-    both (in_range w c (FwdRead k r)) true (both (has_line w k) (has_cluster w r) (line_in w k l e b) (below r.0 w.top.clusters (named-head w.top.clusters f c Request (parcel f c (FwdRead k r) u) s.net n.net h).1)) refl
-case_applies w l v c f u (FwdReadEx k r) p s b e h q i n =
-    both (in_range w c (FwdReadEx k r)) true (both (has_line w k) (has_cluster w r) (line_in w k l e b) (below r.0 w.top.clusters (named-head w.top.clusters f c Request (parcel f c (FwdReadEx k r) u) s.net n.net h).1)) refl
-case_applies w l v c f u (Inval k r) p s b e h q i n =
-    both (in_range w c (Inval k r)) true (both (has_line w k) (has_cluster w r) (line_in w k l e b) (below r.0 w.top.clusters (named-head w.top.clusters f c Request (parcel f c (Inval k r) u) s.net n.net h).1)) refl
-case_applies w l v c f u (WriteBack k d) p s b e h q i n =
-    both (in_range w c (WriteBack k d)) true (home_in w c k l e b (routed (at w l) v s c f u (WriteBack k d) h (λ z. at_home_of c (home_of w l) f u k z) i)) refl
-case_applies w l v c f u (SharingBack k d r) p s b e h q i n =
-    both (in_range w c (SharingBack k d r)) true (both (at_home w c k) (has_cluster w r) (home_in w c k l e b (routed (at w l) v s c f u (SharingBack k d r) h (λ z. at_home_of c (home_of w l) f u k z) i)) (below r.0 w.top.clusters (named-head w.top.clusters f c Request (parcel f c (SharingBack k d r) u) s.net n.net h).1)) refl
-case_applies w l v c f u (Transfer k r) p s b e h q i n =
-    both (in_range w c (Transfer k r)) true (both (at_home w c k) (has_cluster w r) (home_in w c k l e b (routed (at w l) v s c f u (Transfer k r) h (λ z. at_home_of c (home_of w l) f u k z) i)) (below r.0 w.top.clusters (named-head w.top.clusters f c Request (parcel f c (Transfer k r) u) s.net n.net h).1)) refl
+pub case_applies : (w : Config) (l : ℕ) (v : Line) (c f u : ℕ) (m : Msg) (p : Part) (s : State) → l < lines w → is_of l m ≡ true → head f c (class_of m) s.net ≡ Some (parcel f c m u) → p.cells l ≡ s.cells c → Invariant (home_of w l) v s → Bounded w.top.clusters s → applies w c m p ≡ true
+case_applies w l v c f u (Read k) p s b e h q i n = both (in_range w c (Read k)) true (home_in w c k l e b (routed (at w l) v s c f u (Read k) h (λ z. at_home_of c (home_of w l) f u k z) i)) refl
+case_applies w l v c f u (ReadEx k) p s b e h q i n = both (in_range w c (ReadEx k)) true (home_in w c k l e b (routed (at w l) v s c f u (ReadEx k) h (λ z. at_home_of c (home_of w l) f u k z) i)) refl
+case_applies w l v c f u (FwdRead k r) p s b e h q i n = both (in_range w c (FwdRead k r)) true (both (has_line w k) (has_cluster w r) (line_in w k l e b) (below r.0 w.top.clusters (named-head w.top.clusters f c Request (parcel f c (FwdRead k r) u) s.net n.net h).1)) refl
+case_applies w l v c f u (FwdReadEx k r) p s b e h q i n = both (in_range w c (FwdReadEx k r)) true (both (has_line w k) (has_cluster w r) (line_in w k l e b) (below r.0 w.top.clusters (named-head w.top.clusters f c Request (parcel f c (FwdReadEx k r) u) s.net n.net h).1)) refl
+case_applies w l v c f u (Inval k r) p s b e h q i n = both (in_range w c (Inval k r)) true (both (has_line w k) (has_cluster w r) (line_in w k l e b) (below r.0 w.top.clusters (named-head w.top.clusters f c Request (parcel f c (Inval k r) u) s.net n.net h).1)) refl
+case_applies w l v c f u (WriteBack k d) p s b e h q i n = both (in_range w c (WriteBack k d)) true (home_in w c k l e b (routed (at w l) v s c f u (WriteBack k d) h (λ z. at_home_of c (home_of w l) f u k z) i)) refl
+case_applies w l v c f u (SharingBack k d r) p s b e h q i n = both (in_range w c (SharingBack k d r)) true (both (at_home w c k) (has_cluster w r) (home_in w c k l e b (routed (at w l) v s c f u (SharingBack k d r) h (λ z. at_home_of c (home_of w l) f u k z) i)) (below r.0 w.top.clusters (named-head w.top.clusters f c Request (parcel f c (SharingBack k d r) u) s.net n.net h).1)) refl
+case_applies w l v c f u (Transfer k r) p s b e h q i n = both (in_range w c (Transfer k r)) true (both (at_home w c k) (has_cluster w r) (home_in w c k l e b (routed (at w l) v s c f u (Transfer k r) h (λ z. at_home_of c (home_of w l) f u k z) i)) (below r.0 w.top.clusters (named-head w.top.clusters f c Request (parcel f c (Transfer k r) u) s.net n.net h).1)) refl
 case_applies w l v c f u (LockAsk t x word y) p s b e h q i n = absurd (cc)
 case_applies w l v c f u (Unlock t x word) p s b e h q i n = absurd (cc)
 case_applies w l v c f u (Data k d) p s b e h q i n = both (in_range w c (Data k d)) true (line_in w k l e b) refl
 case_applies w l v c f u (DataEx k d x) p s b e h q i n = both (in_range w c (DataEx k d x)) true (line_in w k l e b) refl
-case_applies w l v c f u (Ack k) p s b e h q i n =
-    both (in_range w c (Ack k)) (got_fits (p.cells k.0).acks) (line_in w k l e b) (subst (λ y. got_fits (p.cells y).acks ≡ true) (is_line k.0 l e) (subst (λ a. got_fits a.acks ≡ true) (sym q) (fits w l v c s i n (acks_come s c f u (Ack k) h refl))))
-case_applies w l v c f u (TransferAck k) p s b e h q i n =
-    both (in_range w c (TransferAck k)) (got_fits (p.cells k.0).acks) (line_in w k l e b) (subst (λ y. got_fits (p.cells y).acks ≡ true) (is_line k.0 l e) (subst (λ a. got_fits a.acks ≡ true) (sym q) (fits w l v c s i n (acks_come s c f u (TransferAck k) h refl))))
+case_applies w l v c f u (Ack k) p s b e h q i n = both (in_range w c (Ack k)) (got_fits (p.cells k.0).acks) (line_in w k l e b) (subst (λ y. got_fits (p.cells y).acks ≡ true) (is_line k.0 l e) (subst (λ a. got_fits a.acks ≡ true) (sym q) (fits w l v c s i n (acks_come s c f u (Ack k) h refl))))
+case_applies w l v c f u (TransferAck k) p s b e h q i n = both (in_range w c (TransferAck k)) (got_fits (p.cells k.0).acks) (line_in w k l e b) (subst (λ y. got_fits (p.cells y).acks ≡ true) (is_line k.0 l e) (subst (λ a. got_fits a.acks ≡ true) (sym q) (fits w l v c s i n (acks_come s c f u (TransferAck k) h refl))))
 case_applies w l v c f u (Nak k) p s b e h q i n = both (in_range w c (Nak k)) true (line_in w k l e b) refl
 case_applies w l v c f u (LockGrant t) p s b e h q i n = absurd (cc)
 case_applies w l v c f u (UnlockAck t old) p s b e h q i n = absurd (cc)

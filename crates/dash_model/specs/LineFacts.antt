@@ -1,12 +1,16 @@
 -- What every run keeps of each line of memory: one token, an entry that knows where it is, an answer to each request, exact counts of acknowledgements, and an invalidation for whatever is stale.
-use Rattle.std.specs.Prelude.{◌≡◌, ◌≢◌, ◌⊎◌, ℕ, ◌+◌, ◌≤◌, ◌<◌, true, Option, Some, List, [], ◌∷◌}
+use Rattle.std.specs.Prelude.{◌≡◌, ◌≢◌, ◌⊎◌, ℕ, ◌+◌, ◌≤◌, ◌<◌, true, Option, Some, List, [], ◌∷◌, length}
 use Rattle.dash_base.specs.declared.id.ClusterId.{ClusterId}
 use Rattle.dash_base.specs.declared.id.LineId.{LineId}
 use Rattle.dash_base.specs.declared.line.Line.{Line}
 use Rattle.dash_msg.specs.declared.msg.Msg.TheVariants.{Inval, WriteBack, SharingBack, Data, DataEx}
 use Rattle.dash_event.specs.declared.event.Event.{Event}
+use Rattle.hart_core.specs.Access.{IsInMemory}
 use Rattle.dash_model.specs.Maps.{weigh, member}
-use Rattle.dash_model.specs.Config.{Config, lines, home_of}
+use Rattle.dash_model.specs.Config.{Config, line_id, lines, home_of, line_at}
+use Rattle.dash_model.specs.Words.{word_in}
+use Rattle.dash_model.specs.Log.{commits_of}
+use Rattle.dash_model.specs.LineContent.{word_at}
 use Rattle.dash_model.specs.Net.{Packet}
 use Rattle.dash_model.specs.OnLine.{on, owned, came_own, clean, reads, datas, wants, brings, naks, gives_back, gains, invals, invals_at, acks_to, counts_to, shares, passes}
 use Rattle.dash_model.specs.Cell.{NoCopy, Held, Asked, Poisoned, Came, Slot, Reads, Owns, Acks, NoAcks, Counting, Expects, Entry, SharedBy, Dirty, Cell, Home}
@@ -39,17 +43,22 @@ tokens_at w l m (SlotAt c) = came_own (cell_at l m c).slot
 tokens_at w l m (ComingTo c) = weigh (brings c) (on l m.net)
 tokens_at w l m (ReturningFrom c) = weigh (gives_back c) (on l m.net)
 
--- exactly one place has the token, and its content has the line's current version v
-pub record Token (w : Config) (l v : ℕ) (m : Machine) : Type 0 where
+-- a content is the line's current one by the log: its version is the number of the line's commits, or the greatest version; and each of its words is the opening word with all of those commits written over it
+pub record IsCurrent (w : Config) (log : List Event) (l : ℕ) (d : Line) : Type 0 where
+  pub version : d.version ≡ version_of log l
+  pub words : (address : ℕ) → IsInMemory w.top address 4 → line_at w address ≡ l → word_in w address d ≡ word_at w.image log (line_id l) (length (commits_of log (line_id l))) address
+
+-- exactly one place has the token, and its content is current
+pub record Token (w : Config) (log : List Event) (l : ℕ) (m : Machine) : Type 0 where
   pub holder : Holder
   pub there : tokens_at w l m holder ≡ 1
   pub alone : (other : Holder) → other ≢ holder → tokens_at w l m other ≡ 0
-  pub memory : clean (home_at w l m).entry ≡ 1 → (home_at w l m).mem.version ≡ v
-  pub owner : (c : ℕ) (hs : List ℕ) (o : ℕ) (d : Line) → (cell_at l m c).copy ≡ Held hs (Some o) d → d.version ≡ v
-  pub slot : (c n h : ℕ) (d : Line) → (cell_at l m c).slot ≡ Owns n h (Came d) → d.version ≡ v
-  pub coming : (q : Packet) (k : LineId) (d : Line) (count : ℕ) → IsOnItsWay q (on l m.net) → q.msg ≡ DataEx k d count → d.version ≡ v
-  pub returning : (q : Packet) (k : LineId) (d : Line) → IsOnItsWay q (on l m.net) → q.msg ≡ WriteBack k d → d.version ≡ v
-  pub sharing : (q : Packet) (k : LineId) (d : Line) (r : ClusterId) → IsOnItsWay q (on l m.net) → q.msg ≡ SharingBack k d r → d.version ≡ v
+  pub memory : clean (home_at w l m).entry ≡ 1 → IsCurrent w log l (home_at w l m).mem
+  pub owner : (c : ℕ) (hs : List ℕ) (o : ℕ) (d : Line) → (cell_at l m c).copy ≡ Held hs (Some o) d → IsCurrent w log l d
+  pub slot : (c n h : ℕ) (d : Line) → (cell_at l m c).slot ≡ Owns n h (Came d) → IsCurrent w log l d
+  pub coming : (q : Packet) (k : LineId) (d : Line) (count : ℕ) → IsOnItsWay q (on l m.net) → q.msg ≡ DataEx k d count → IsCurrent w log l d
+  pub returning : (q : Packet) (k : LineId) (d : Line) → IsOnItsWay q (on l m.net) → q.msg ≡ WriteBack k d → IsCurrent w log l d
+  pub sharing : (q : Packet) (k : LineId) (d : Line) (r : ClusterId) → IsOnItsWay q (on l m.net) → q.msg ≡ SharingBack k d r → IsCurrent w log l d
 
 -- the token is at cluster c, or on its way to it
 abbrev pub tokens_for : ℕ → Machine → ℕ → ℕ
@@ -109,10 +118,10 @@ abbrev pub IsInvalidated : ℕ → Machine → ℕ → Type 0
 IsInvalidated l m c = 1 ≤ weigh (invals_at c) (on l m.net)
 
 -- what cluster c has of the line to read from is current, or an invalidation is on its way to c: its copy, what came to a slot, and what is on its way to one that waits for it
-pub record StaleIsInvalidated (l v : ℕ) (m : Machine) (c : ℕ) : Type 0 where
-  pub copy : (hs : List ℕ) (o : Option ℕ) (d : Line) → (cell_at l m c).copy ≡ Held hs o d → (d.version ≡ v) ⊎ IsInvalidated l m c
-  pub slot : (n h : ℕ) (d : Line) → (cell_at l m c).slot ≡ Reads n h (Came d) → (d.version ≡ v) ⊎ IsInvalidated l m c
-  pub coming : (n h : ℕ) (q : Packet) (k : LineId) (d : Line) → (cell_at l m c).slot ≡ Reads n h Asked → IsOnItsWay q (on l m.net) → q.dst ≡ c → q.msg ≡ Data k d → (d.version ≡ v) ⊎ IsInvalidated l m c
+pub record StaleIsInvalidated (w : Config) (log : List Event) (l : ℕ) (m : Machine) (c : ℕ) : Type 0 where
+  pub copy : (hs : List ℕ) (o : Option ℕ) (d : Line) → (cell_at l m c).copy ≡ Held hs o d → IsCurrent w log l d ⊎ IsInvalidated l m c
+  pub slot : (n h : ℕ) (d : Line) → (cell_at l m c).slot ≡ Reads n h (Came d) → IsCurrent w log l d ⊎ IsInvalidated l m c
+  pub coming : (n h : ℕ) (q : Packet) (k : LineId) (d : Line) → (cell_at l m c).slot ≡ Reads n h Asked → IsOnItsWay q (on l m.net) → q.dst ≡ c → q.msg ≡ Data k d → IsCurrent w log l d ⊎ IsInvalidated l m c
 
 -- cluster c has something of the line to read from
 pub data HasThing (l : ℕ) (m : Machine) (c : ℕ) : Type 0 where
@@ -137,16 +146,16 @@ pub record OneEpoch (w : Config) (l : ℕ) (m : Machine) : Type 0 where
   pub entry : (q : Packet) (k : LineId) (r : ClusterId) → IsOnItsWay q (on l m.net) → q.msg ≡ Inval k r → (home_at w l m).entry ≡ Dirty r.0
   pub acks : (q : Packet) (k : LineId) (r : ClusterId) → IsOnItsWay q (on l m.net) → q.msg ≡ Inval k r → (cell_at l m r.0).acks ≢ NoAcks
 
--- the facts of line l at version v
-pub record LineFacts (w : Config) (l v : ℕ) (m : Machine) : Type 0 where
-  pub token : Token w l v m
+-- the facts of line l after a log
+pub record LineFacts (w : Config) (log : List Event) (l : ℕ) (m : Machine) : Type 0 where
+  pub token : Token w log l m
   pub entry : EntryKnows w l m
   pub requests : (c : ℕ) → OneAnswer l m c
   pub counts : (c : ℕ) → CountIsExact l m c
-  pub stale : (c : ℕ) → StaleIsInvalidated l v m c
+  pub stale : (c : ℕ) → StaleIsInvalidated w log l m c
   pub coverage : (c : ℕ) → HasThing l m c → IsCovered w l m c
   pub one_epoch : OneEpoch w l m
 
--- every run keeps them, of each line of memory, whose version is the number of its commits, or the greatest version
+-- every run keeps them, of each line of memory
 abbrev pub RunsKeepLines : Type 0
-RunsKeepLines = (w : Config) (log : List Event) (m : Machine) (l : ℕ) → l < lines w → Reaches w log m → LineFacts w l (version_of log l) m
+RunsKeepLines = (w : Config) (log : List Event) (m : Machine) (l : ℕ) → l < lines w → Reaches w log m → LineFacts w log l m

@@ -3,10 +3,10 @@ ghost use Rattle.dash_model.specs.Example.{ExampleRuns};
 ghost use Rattle.dash_model.specs.LineFacts.{RunsKeepLines};
 ghost use Rattle.dash_model.specs.MachineLaws.{EventsFixEffects, LanesAreQueues, StepsChangeOnePart, StampsRise, CasesApply, EventsHappen, LocalRunsGrow, MergesAreRuns};
 
-/// Every run keeps the facts of each line of memory: one token, which is current; an entry that knows
-/// where it is; one answer to each request; exact counts of acknowledgements; an invalidation on its
-/// way to whatever is stale; each cluster with a copy covered by the home; and one epoch of
-/// invalidations at a time.
+/// Every run keeps the facts of each line of memory: one token, whose content is by the log the current
+/// one, in its version and in each word; an entry that knows where it is; one answer to each request;
+/// exact counts of acknowledgements; an invalidation on its way to whatever is stale; each cluster with a
+/// copy covered by the home; and one epoch of invalidations at a time.
 pub fn runs_keep_lines()
     ensures { RunsKeepLines }
 {}
