@@ -14,7 +14,7 @@ use Rattle.dash_event.specs.declared.event.Kind.TheVariants as kind
 use Rattle.dash_model.specs.Log.{IsEventAt, IsCommitEvent}
 use Rattle.dash_model.specs.Coherent.{IsCommittedBefore}
 use Rattle.dash_model.specs.Followed.{IsFollowed}
-use Rattle.trace_merge.proofs.Places.{IsSmall, upto, from_place, at_place}
+use Rattle.trace_merge.proofs.Places.{IsSmall, small_if, upto, from_place, at_place}
 use Rattle.trace_merge.proofs.Facts.{one_event, three, both, one_store}
 
 -- what happened, in a list of one, where it commits a store
@@ -22,13 +22,9 @@ own_commit : Access → Kind → List Kind
 own_commit a (kind.Commit h m l v) = if (h.0 == a.hart.0) && (m == a.number) then kind.Commit h m l v ∷ [] else []
 own_commit a k = []
 
-small_by : (b : Bool) (k : Kind) → IsSmall (if b then k ∷ [] else [])
-small_by true k = tt
-small_by false k = tt
-
 small_commits : (a : Access) (k : Kind) → IsSmall (own_commit a k)
 unfolding own_commit
-small_commits a (kind.Commit h m l v) = small_by ((h.0 == a.hart.0) && (m == a.number)) (kind.Commit h m l v)
+small_commits a (kind.Commit h m l v) = small_if ((h.0 == a.hart.0) && (m == a.number)) (kind.Commit h m l v)
 small_commits a k = tt
 
 record IsThatCommit (a : Access) (k : Kind) : Type 0 where

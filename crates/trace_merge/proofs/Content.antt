@@ -14,7 +14,7 @@ use Rattle.flat_model.specs.Step.{word_after}
 use Rattle.flat_model.proofs.Writes.{same_access, byte_after, WritesOrKeeps}
 use Rattle.dash_model.specs.Log.{IsEventAt, commit_in, commits_of, commits_before}
 use Rattle.dash_model.specs.LineContent.{committed, committed_over, word_at}
-use Rattle.trace_merge.proofs.Places.{IsSmall, upto_all, from_place, before_place}
+use Rattle.trace_merge.proofs.Places.{IsSmall, small_if, upto_all, from_place, before_place}
 use Rattle.trace_merge.proofs.Facts.{one_event, three, some_element}
 
 take_one : {A : Type 0} (xs : List A) (v : ℕ) (x : A) → slice_get xs v ≡ Some x → take (suc v) xs ≡ take v xs ++ x ∷ []
@@ -26,13 +26,9 @@ fold_end : {A B : Type 0} (g : B → A → B) (b : B) (xs : List A) (x : A) → 
 fold_end g b [] x = refl
 fold_end g b (y ∷ xs) x = fold_end g (g b y) xs x
 
-small_by : (b : Bool) (k : Kind) → IsSmall (if b then k ∷ [] else [])
-small_by true k = tt
-small_by false k = tt
-
 pub small_commits : (line : LineId) (k : Kind) → IsSmall (commit_in line k)
-small_commits line (kind.Commit h n l v) = small_by (l.0 == line.0) (kind.Commit h n l v)
-small_commits line (kind.Rmw a l v) = small_by (l.0 == line.0) (kind.Rmw a l v)
+small_commits line (kind.Commit h n l v) = small_if (l.0 == line.0) (kind.Commit h n l v)
+small_commits line (kind.Rmw a l v) = small_if (l.0 == line.0) (kind.Rmw a l v)
 small_commits line k = tt
 
 itself_by : (b : Bool) (k k' : Kind) → (if b then k ∷ [] else []) ≡ k' ∷ [] → k ≡ k'

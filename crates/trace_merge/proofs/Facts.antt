@@ -22,7 +22,7 @@ use Rattle.dash_model.specs.Log.{IsEventAt}
 use Rattle.dash_model.specs.LineContent.{store_in, store_of}
 use Rattle.dash_model.specs.Replay.{Harts, Moves, Accesses, Replays}
 use Rattle.dash_model.specs.Followed.{IsFollowed}
-use Rattle.trace_merge.proofs.Places.{IsSmall, upto, from_place, at_place, upto_all}
+use Rattle.trace_merge.proofs.Places.{IsSmall, small_if, upto, from_place, at_place, upto_all}
 use Rattle.trace_merge.proofs.Offers.{IsPlainStore, has_shape, store_need, HasShape}
 
 -- what stands at one position is one
@@ -82,13 +82,8 @@ retired_on image t old new (kind.Again s l) g r = stays_on old new g (r.stays g)
 retired_on image t old new (kind.Install s h l) g r = stays_on old new g (r.stays g)
 retired_on image t old new (kind.Take f m) g r = stays_on old new g (r.stays g)
 
--- the access of a store, as a list of one or none
-small_by : (b : Bool) (a : Access) → IsSmall (if b then a ∷ [] else [])
-small_by true a = tt
-small_by false a = tt
-
 small_stores : (hart : HartId) (number : ℕ) (k : Kind) → IsSmall (store_in hart number k)
-small_stores hart number (kind.Store a) = small_by ((a.hart.0 == hart.0) && (a.number == number)) a
+small_stores hart number (kind.Store a) = small_if ((a.hart.0 == hart.0) && (a.number == number)) a
 small_stores hart number k = tt
 
 pub both : (x y : Bool) → (x && y) ≡ true → (x ≡ true) × (y ≡ true)

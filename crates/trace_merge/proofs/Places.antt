@@ -1,6 +1,6 @@
 -- Lists that the events of a log make one after another, each at most one element: positions there, and positions in the log.
-use Rattle.std.proofs.Common.{◌≡◌, ◌⊎◌, inl, inr, ◌<◌, ◌≤◌, ℕ, zero, suc, ◌+◌, List, [], ◌∷◌, ◌++◌, length, take, Option, Some, None, refl, sym, ◌∙◌, ap, subst, arith}
-use Rattle.std.specs.Prelude.{slice_get, flat_map, option_map}
+use Rattle.std.proofs.Common.{Bool, true, false, ◌≡◌, ◌⊎◌, inl, inr, ◌<◌, ◌≤◌, ℕ, zero, suc, ◌+◌, List, [], ◌∷◌, ◌++◌, length, take, Option, Some, None, refl, sym, ◌∙◌, ap, subst, arith}
+use Rattle.std.specs.Prelude.{if◌then◌else◌, slice_get, flat_map, option_map}
 use Rattle.std.proofs.lemmas.List.{append-nil, append_assoc, length-append, take_all}
 use Rattle.std.proofs.lemmas.Option.{slice_get_within}
 use Rattle.dash_event.specs.declared.event.Event.{Event}
@@ -34,6 +34,10 @@ abbrev pub IsSmall : {A : Type 0} → List A → Type 0
 IsSmall [] = Unit {0}
 IsSmall (x ∷ []) = Unit {0}
 IsSmall (x ∷ y ∷ xs) = ⊥
+
+pub small_if : {A : Type 0} (b : Bool) (x : A) → IsSmall (if b then x ∷ [] else [])
+small_if true x = tt
+small_if false x = tt
 
 only_one : {A : Type 0} (xs : List A) (q : ℕ) (x : A) → IsSmall xs → slice_get xs q ≡ Some x → (xs ≡ x ∷ []) × (q ≡ 0)
 only_one [] q x small e = absurd cc
