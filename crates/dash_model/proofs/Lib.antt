@@ -30,3 +30,4 @@ pub mod Lifted
 pub mod Merge
 pub mod Local
 pub mod Prefix
+pub mod Numbered

@@ -5,9 +5,14 @@ use Rattle.dash_msg.specs.declared.classes.Class.{Class}
 use Rattle.dash_msg.specs.declared.msg.Msg.{Msg}
 use Rattle.dash_msg.specs.declared.parcel.Sent.{Sent}
 use Rattle.dash_event.specs.declared.event.Event.{Event}
-use Rattle.dash_event.specs.declared.event.Kind.TheVariants.{Take}
+use Rattle.dash_event.specs.declared.event.Kind.TheVariants.{Commit, Rmw, Take}
 use Rattle.dash_base.specs.declared.id.ClusterId.{ClusterId}
-use Rattle.dash_model.specs.Maps.{most}
+use Rattle.dash_base.specs.declared.id.HartId.{HartId}
+use Rattle.dash_base.specs.declared.id.LineId.{LineId}
+use Rattle.dash_event.specs.declared.access.Access.{Access}
+use Rattle.dash_event.specs.declared.access.Seen.TheVariants.{Line}
+use Rattle.dash_model.specs.History.{version_of}
+use Rattle.dash_model.specs.Maps.{raised, most}
 use Rattle.dash_model.specs.Config.{Config, lines}
 use Rattle.dash_model.specs.Net.{Packet, packet, lane, head, tail, first, rest, send}
 use Rattle.dash_model.specs.Part.{Part, opening_part}
@@ -99,3 +104,12 @@ pub record HappensAfter (w : Config) (before : List Event) (e : Event) : Type 0 
 -- each event of a run does; so the events before it are a run too
 abbrev pub EventsHappen : Type 0
 EventsHappen = (w : Config) (before rest : List Event) (e : Event) → IsRun w (before ++ (e ∷ rest)) → HappensAfter w before e
+
+-- a commit makes the version after the line's, and an atomic operation is shown the line's
+abbrev pub CommitsAreNumbered : Type 0
+CommitsAreNumbered =
+    ((w : Config) (before rest : List Event) (e : Event) (h : HartId) (n : ℕ) (k : LineId) (v : ℕ) → k.0 < lines w
+    → IsRun w (before ++ (e ∷ rest)) → e.kind ≡ Commit h n k v → v ≡ raised most (version_of before k.0))
+    × ((w : Config) (before rest : List Event) (e : Event) (a : Access) (k : LineId) (v : ℕ) → k.0 < lines w
+    → IsRun w (before ++ (e ∷ rest)) → e.kind ≡ Rmw a k v
+    → (v ≡ raised most (version_of before k.0)) × (a.seen ≡ Line (version_of before k.0)))

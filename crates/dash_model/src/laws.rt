@@ -1,7 +1,7 @@
 //! Laws of the definitions. The functions do nothing: their contracts are the laws.
 ghost use Rattle.dash_model.specs.Example.{ExampleRuns};
 ghost use Rattle.dash_model.specs.LineFacts.{RunsKeepLines};
-ghost use Rattle.dash_model.specs.MachineLaws.{EventsFixEffects, LanesAreQueues, StepsChangeOnePart, StampsRise, CasesApply, EventsHappen, LocalRunsGrow, MergesAreRuns};
+ghost use Rattle.dash_model.specs.MachineLaws.{EventsFixEffects, LanesAreQueues, StepsChangeOnePart, StampsRise, CasesApply, CommitsAreNumbered, EventsHappen, LocalRunsGrow, MergesAreRuns};
 
 /// Every run keeps the facts of each line of memory: one token, whose content is by the log the current
 /// one, in its version and in each word; an entry that knows where it is; one answer to each request;
@@ -59,4 +59,10 @@ pub fn merges_are_runs()
 /// Each event of a run happens in the state that the events before it lead to; so those are a run too.
 pub fn events_happen()
     ensures { EventsHappen }
+{}
+
+/// In a run each commit makes the version after the current one of its line, and an atomic operation is
+/// shown the current one.
+pub fn commits_are_numbered()
+    ensures { CommitsAreNumbered }
 {}
