@@ -1,5 +1,5 @@
 -- What becomes of each hart's write buffer at each event.
-use Rattle.std.proofs.Common.{◌≡◌, ℕ, ◌+◌, ◌≤◌, ◌==◌, ◌&&◌, Bool, true, false, not, cond, Option, Some, None, List, [], ◌∷◌, ◌++◌, unwrap_or, refl, sym, ap, ◌∙◌, subst, arith}
+use Rattle.std.proofs.Common.{◌≡◌, ◌≢◌, ℕ, ◌+◌, ◌≤◌, ◌==◌, ◌&&◌, Bool, true, false, not, cond, Option, Some, None, List, [], ◌∷◌, ◌++◌, unwrap_or, refl, sym, ap, ◌∙◌, subst, arith}
 use Rattle.std.proofs.lemmas.Bool.Decides.{nat_tests}
 use Rattle.dash_msg.specs.declared.msg.Msg.{Msg}
 use Rattle.dash_msg.specs.declared.msg.Msg.TheVariants.{Read, ReadEx, FwdRead, FwdReadEx, Inval, WriteBack, SharingBack, Transfer, Data, DataEx, Ack, TransferAck, Nak, LockAsk, Unlock, LockGrant, UnlockAck}
@@ -28,6 +28,7 @@ use Rattle.dash_model.specs.Did.{Did}
 use Rattle.dash_model.specs.Words.{held_by, content, written_in}
 use Rattle.flat_model.specs.Step.{reply}
 use Rattle.dash_base.specs.declared.id.WordAddr.{WordAddr}
+use Rattle.dash_base.specs.declared.id.HartId.{HartId}
 use Rattle.dash_base.specs.declared.id.LineId.{LineId}
 use Rattle.rv32_decode.specs.declared.prefetch.HintKind.{HintKind}
 use Rattle.dash_model.specs.HartRows.{Performed, cleared, on_line, acts, change, retire, hint_row, loaded_from, commit_row, entry_of, kept, rmw_reserved, evict_act, ask_act}
@@ -40,14 +41,14 @@ use Rattle.dash_model.specs.Row.{row, takes, msg_row, msg_row_if}
 -- what becomes of a hart's buffer: it stays, loses the oldest store, or gets one more
 pub data Buffer (e : Kind) (h : ℕ) (s t : Processor) : Type 0 where
   Kept : t.buffer ≡ s.buffer → s.core.retired ≤ t.core.retired → Buffer e h s t
-  Dropped : (x : Stored) → s.buffer ≡ x ∷ t.buffer → s.core.retired ≤ t.core.retired → Buffer e h s t
+  Dropped : (x : Stored) (g : HartId) (n : ℕ) (k : LineId) (v : ℕ) → e ≡ kind.Commit g n k v → s.buffer ≡ x ∷ t.buffer → s.core.retired ≤ t.core.retired → Buffer e h s t
   Added : (a : Access) → e ≡ kind.Store a → a.hart.0 ≡ h → a.number ≡ s.core.retired + 1 → t.buffer ≡ s.buffer ++ entry_of a ∷ [] → t.core.retired ≡ s.core.retired + 1 → Buffer e h s t
 
 -- clearing what a hart held leaves its buffer
 swept_stays : (w : Config) (l h : ℕ) (e : Kind) (s t : Processor) (b : Bool) → Buffer e h s t → Buffer e h s (cond b (cleared w l t) t)
 swept_stays w l h e s t false k = k
 swept_stays w l h e s t true (Kept b r) = Kept b r
-swept_stays w l h e s t true (Dropped z b r) = Dropped z b r
+swept_stays w l h e s t true (Dropped z g n k v q b r) = Dropped z g n k v q b r
 swept_stays w l h e s t true (Added a is mine number b r) = Added a is mine number b r
 
 -- other harts stay
@@ -87,7 +88,7 @@ hinted w e g h None k a p hs b = b
 loaded : (w : Config) (e : Kind) (a : Access) (l h : ℕ) (look : Look) (s t : Processor) → Buffer e h s t → Buffer e h s (loaded_from w a l look t)
 loaded w e a l h (Hit v k) s t b = b
 loaded w e a l h _ s t (Kept b r) = Kept b r
-loaded w e a l h _ s t (Dropped x b r) = Dropped x b r
+loaded w e a l h _ s t (Dropped x g n k v q b r) = Dropped x g n k v q b r
 loaded w e a l h _ s t (Added x is mine number b r) = Added x is mine number b r
 
 -- Store
@@ -101,11 +102,11 @@ pub store_retires : (w : Config) (h k : HartState) (need : Need) (answer : ℕ) 
 store_retires w h k need answer word mask value is d = retires w.image w.top h k need answer d ∙ ap (λ z. retired_after z h.retired) is
 
 -- Commit
-drained : (w : Config) (e : Kind) (g h l : ℕ) (p : Part) (b : List Stored) → (p.harts g).buffer ≡ b → Buffer e h (p.harts h) ((commit_row w g l b p).part.harts h)
-drained w e g h l p [] is = stays e h (p.harts h)
-drained w e g h l p (x ∷ xs) is =
-    let next = record (p.harts g) { buffer = xs } in
-    acted w l (Commit g (written_in w x.word.0 x.mask x.value (content (p.cells l).copy))) e h p (upd p.harts g next) (changed e g h p next (Dropped x is (omega arith)))
+drained : (w : Config) (g : HartId) (n v : ℕ) (k : LineId) (h : ℕ) (p : Part) (b : List Stored) → (p.harts g.0).buffer ≡ b → Buffer (kind.Commit g n k v) h (p.harts h) ((commit_row w g.0 k.0 b p).part.harts h)
+drained w g n v k h p [] is = stays (kind.Commit g n k v) h (p.harts h)
+drained w g n v k h p (x ∷ xs) is =
+    let next = record (p.harts g.0) { buffer = xs } in
+    acted w k.0 (Commit g.0 (written_in w x.word.0 x.mask x.value (content (p.cells k.0).copy))) (kind.Commit g n k v) h p (upd p.harts g.0 next) (changed (kind.Commit g n k v) g.0 h p next (Dropped x g n k v refl is (omega arith)))
 
 -- Install
 keeps : (w : Config) (e : Kind) (l h : ℕ) (slot : Slot) (b : Bool) (s : Processor) → Buffer e h s (kept w l slot b s)
@@ -173,7 +174,7 @@ buffer_is w c (kind.Load a level) d p h can =
 buffer_is w c (kind.Store a) d p h can =
     let next = record (p.harts a.hart.0) { core = d.next; buffer = (p.harts a.hart.0).buffer ++ entry_of a ∷ [] } in
     changed (kind.Store a) a.hart.0 h p next (Added a refl refl (number_is a.hart.0 (number_of a.hart.0 p) d.need a a.word a.mask can.value 0 false can.next.need_is can.access.made) refl (store_retires w (p.harts a.hart.0).core d.next d.need (reply a.read a.written) a.word a.mask can.value can.next.need_is can.next.does))
-buffer_is w c (kind.Commit g n k v) d p h can = drained w (kind.Commit g n k v) g.0 h k.0 p (p.harts g.0).buffer refl
+buffer_is w c (kind.Commit g n k v) d p h can = drained w g n v k h p (p.harts g.0).buffer refl
 buffer_is w c (kind.Rmw a k v) d p h can =
     let next = record (p.harts a.hart.0) { core = d.next; reserved = rmw_reserved a.op (p.harts a.hart.0).reserved } in
     acted w k.0 (Commit a.hart.0 (written_in w a.word.0 a.mask (unwrap_or a.written 0) (content (p.cells k.0).copy))) (kind.Rmw a k v) h p (upd p.harts a.hart.0 next) (changed (kind.Rmw a k v) a.hart.0 h p next (Kept refl (no_less w (p.harts a.hart.0).core d.next d.need (reply a.read a.written) can.next.does)))
@@ -190,3 +191,9 @@ buffer_is w c (kind.Install slot g k) d p h can =
 buffer_is w c (kind.Grant a) d p h can = granted w (kind.Grant a) (lock_at w a.word.0) h (p.locks (lock_at w a.word.0)).queue p
 buffer_is w c (kind.Free f a) d p h can = stays (kind.Free f a) h (p.harts h)
 buffer_is w c (kind.Take f m) d p h can = taken_if w c f.0 m (kind.Take f m) h d p (applies w c m p) refl can
+
+-- a buffer that stays, at an event that is neither a store nor a commit
+pub kept_else : (e : Kind) (h : ℕ) (s t : Processor) → Buffer e h s t → ((a : Access) → e ≢ kind.Store a) → ((g : HartId) (n : ℕ) (k : LineId) (v : ℕ) → e ≢ kind.Commit g n k v) → t.buffer ≡ s.buffer
+kept_else e h s t (Kept b r) store commit = b
+kept_else e h s t (Dropped x g n k v q b r) store commit = absurd (commit g n k v q)
+kept_else e h s t (Added a is mine number b r) store commit = absurd (store a is)

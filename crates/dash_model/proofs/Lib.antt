@@ -20,6 +20,7 @@ pub mod Stores
 pub mod Told
 pub mod Reached
 pub mod LineFacts
+pub mod BufferFacts
 pub mod Lanes
 pub mod Effects
 pub mod Changes

@@ -113,7 +113,7 @@ beyond w c _ d p h n can low = refl
 
 rises : (e : Kind) (h : ℕ) (s t : Processor) → Buffer e h s t → s.core.retired ≤ t.core.retired
 rises e h s t (Kept b r) = r
-rises e h s t (Dropped x b r) = r
+rises e h s t (Dropped x g n z v q b r) = r
 rises e h s t (Added a is mine number b r) = omega (arith, r)
 
 -- the store of an event is the first of its number
@@ -126,7 +126,7 @@ new_store log e h a is mine none =
 
 waiting_by : (w : Config) (log : List Event) (e : Event) (h : ℕ) (s t : Processor) → Buffer e.kind h s t → ((a : Access) → e.kind ≡ kind.Store a → IsWrite w a) → IsListed w log h s → AllStored w (log ++ e ∷ []) h t.buffer
 waiting_by w log e h s t (Kept b r) writes k = subst (AllStored w (log ++ e ∷ []) h) (sym b) (all_kept w log (e ∷ []) h s.buffer k.waiting)
-waiting_by w log e h s t (Dropped x b r) writes k = all_kept w log (e ∷ []) h t.buffer (subst (AllStored w log h) b k.waiting).1
+waiting_by w log e h s t (Dropped x g n z v q b r) writes k = all_kept w log (e ∷ []) h t.buffer (subst (AllStored w log h) b k.waiting).1
 waiting_by w log e h s t (Added a is mine number b r) writes k =
     let more : s.core.retired < a.number = omega (arith, number) in
     let one : IsStored w (log ++ e ∷ []) h (entry_of a) = record { access = a; found = new_store log e h a is mine (k.none a.number more); entry = refl; writes = writes a is } in

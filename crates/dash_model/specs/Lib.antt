@@ -31,5 +31,6 @@ pub mod Weight
 pub mod History
 pub mod OnLine
 pub mod LineFacts
+pub mod BufferFacts
 pub mod MachineLaws
 pub mod Example

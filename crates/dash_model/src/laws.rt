@@ -1,4 +1,5 @@
 //! Laws of the definitions. The functions do nothing: their contracts are the laws.
+ghost use Rattle.dash_model.specs.BufferFacts.{BuffersHoldUncommittedStores};
 ghost use Rattle.dash_model.specs.Example.{ExampleRuns};
 ghost use Rattle.dash_model.specs.LineFacts.{RunsKeepLines};
 ghost use Rattle.dash_model.specs.MachineLaws.{EventsFixEffects, LanesAreQueues, StepsChangeOnePart, StampsRise, CasesApply, CommitsAreNumbered, EventsHappen, LocalRunsGrow, MergesAreRuns};
@@ -9,6 +10,12 @@ ghost use Rattle.dash_model.specs.MachineLaws.{EventsFixEffects, LanesAreQueues,
 /// copy covered by the home; and one epoch of invalidations at a time.
 pub fn runs_keep_lines()
     ensures { RunsKeepLines }
+{}
+
+/// In every run the stores of a hart are those that the log commits, in the order of their commits, and
+/// then those that wait in its write buffer: each with the number, word, mask and value of its Store event.
+pub fn buffers_hold_uncommitted_stores()
+    ensures { BuffersHoldUncommittedStores }
 {}
 
 /// In every run, where a message of a line of memory is taken, a case of its row applies.
