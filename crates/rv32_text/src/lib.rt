@@ -12,6 +12,7 @@ use dash_base::{Amo, AmoOp, Instr};
 use itoa::Buffer;
 use rv32_decode::{Hint, hint};
 
+pub mod laws;
 mod names;
 
 /// The spelling of an instruction, such as `lw t0,-4(sp)`.

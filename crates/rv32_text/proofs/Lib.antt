@@ -1,0 +1,10 @@
+mod Words
+mod Tables
+mod Numbers
+mod Pieces
+mod Mnemonics
+mod Operands
+mod Rows
+mod SameRow
+mod Prefetches
+mod Unique
