@@ -43,11 +43,6 @@ same_under m p q same =
     λ i. word_of_bytes (each 0 (omega arith) i) (each 1 (omega arith) i) (each 2 (omega arith) i) (each 3 (omega arith) i)
 
 -- the commit of a version of a line is counted among the line's
-record IsCounted (log : List Event) (c : ℕ) (line : LineId) : Type 0 where
-  kind : Kind
-  is_at : IsEventAt log c kind
-  makes : commit_in line kind ≡ kind ∷ []
-
 counted_by : (l line : LineId) (k : Kind) → l ≡ line → (if l.0 == line.0 then k ∷ [] else []) ≡ k ∷ []
 counted_by l line k same = λ i. if eq-eqb l.0 line.0 (ap (λ x. x.0) same) i then k ∷ [] else []
 
