@@ -4,3 +4,4 @@ pub mod Finds
 pub mod Maps
 pub mod Indexes
 pub mod Held
+pub mod LawsOffered

@@ -1,3 +1,4 @@
 pub mod Sets
 pub mod Lines
 pub mod Parts
+pub mod LawsOffered

@@ -6,7 +6,7 @@ use Rattle.std.specs.FinSet.{contains-empty, retain}
 use Rattle.std.proofs.lemmas.Bool.Decides.{nat_tests}
 use Rattle.dash_base.specs.declared.line.Line.{Line}
 use Rattle.cache_array.specs.View.{has_line, empty_array, with_copy, without_line}
-use Rattle.cache_array.proofs.Lines.{copy_at-with_copy, copy_at-without_line}
+use Rattle.cache_array.proofs.LawsOffered.{copy_at-with_copy, copy_at-without_line}
 use Rattle.cache_levels.specs.View.{LevelsView, in_l1, empty_levels, with_level_copy, without_level_line, entered, after_read, IsPartOfL2}
 use Rattle.cache_levels.proofs.Sets.{contains-insert_nat, contains-remove_nat, contains-retain_nat, same_nat_set}
 

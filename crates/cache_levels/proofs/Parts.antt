@@ -4,7 +4,7 @@ use Rattle.std.specs.Prelude.{◌==◌}
 use Rattle.std.proofs.lemmas.Bool.Decides.{nat_tests}
 use Rattle.dash_base.specs.declared.line.Line.{Line}
 use Rattle.cache_array.specs.View.{ArrayView, copy_at, has_line, empty_array, with_copy, without_line, HasRoom, IsOther, IsOnePerIndex}
-use Rattle.cache_array.proofs.Lines.{copy_at-empty_array, copy_at-with_copy, copy_at-without_line, lines-empty_array, lines-with_copy, lines-without_line, room_without_other, one_per_index-empty_array, one_per_index-with_copy, one_per_index-without_line}
+use Rattle.cache_array.proofs.LawsOffered.{copy_at-empty_array, copy_at-with_copy, copy_at-without_line, lines-empty_array, lines-with_copy, lines-without_line, room_without_other, one_per_index-empty_array, one_per_index-with_copy, one_per_index-without_line}
 use Rattle.cache_levels.specs.View.{LevelsView, in_l1, empty_levels, with_level_copy, without_level_line, entered, read_of, after_read, IsPartOfL2}
 use Rattle.cache_levels.specs.Within.{lines_in, IsWithin, with_copy_where_held}
 use Rattle.cache_levels.specs.Replaced.{Replaces}

@@ -16,7 +16,7 @@ struct Plain {
     l1: u32,
     l2: u32,
     copies: [Option<Line>; 48],
-    near: [bool; 48],
+    in_l1: [bool; 48],
 }
 
 impl Plain {
@@ -30,7 +30,7 @@ impl Plain {
 
     fn clear(&mut self, line: u32) {
         self.copies[(line % 48) as usize] = None;
-        self.near[(line % 48) as usize] = false;
+        self.in_l1[(line % 48) as usize] = false;
     }
 
     fn victim(&self, line: u32) -> Option<LineId> {
@@ -42,16 +42,16 @@ impl Plain {
 
     fn read(&mut self, line: u32) -> Option<(Line, u32)> {
         let copy = self.peek(line)?;
-        if self.near[(line % 48) as usize] {
+        if self.in_l1[(line % 48) as usize] {
             return Some((copy, 1));
         }
         let l1 = self.l1.max(1);
         for other in 0..48_u32 {
             if other % l1 == line % l1 {
-                self.near[other as usize] = false;
+                self.in_l1[other as usize] = false;
             }
         }
-        self.near[(line % 48) as usize] = true;
+        self.in_l1[(line % 48) as usize] = true;
         Some((copy, 2))
     }
 }
@@ -128,7 +128,7 @@ fn random_calls_meet_tables_by_line(rt: HostRuntime) -> Result<(), Fail> {
             l1,
             l2,
             copies: [None; 48],
-            near: [false; 48],
+            in_l1: [false; 48],
         };
         for step in 0..600_u32 {
             let line = random(&mut state) % 48;

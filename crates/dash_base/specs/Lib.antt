@@ -3,4 +3,5 @@ pub mod Words
 pub mod Segment
 pub mod Bounds
 pub mod Topology
+pub mod Places
 pub mod Outside

@@ -13,7 +13,9 @@ pub use line::Line;
 pub use mask::{Mask, merge};
 pub use memory::OutOfMemory;
 pub use memory_host::MemoryHost;
+pub use need::{HintKind, Need};
 pub use ops::{AluOp, AmoOp, BranchOp, LoadOp, StoreOp};
+pub use places::{first_prefetch, home_among};
 pub use segment::Segment;
 pub use topology::{Key, KeyName, TopoRefusal, Topology};
 
@@ -25,6 +27,8 @@ mod line;
 mod mask;
 mod memory;
 mod memory_host;
+mod need;
 mod ops;
+mod places;
 mod segment;
 mod topology;

@@ -1,2 +1,3 @@
 pub mod Records
-pub mod Places
+pub mod Offered
+pub mod Effects

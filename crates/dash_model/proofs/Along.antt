@@ -10,7 +10,7 @@ use Rattle.dash_model.specs.Net.{Packet, packet, in_lane, head, tail, send}
 use Rattle.dash_model.specs.OnLine.{is_of, on}
 use Rattle.dash_model.specs.Cell.{Cell, Home}
 use Rattle.dash_model.specs.Part.{Part}
-use Rattle.dash_model.specs.Did.{Did}
+use Rattle.dash_model.specs.LineEffect.{LineEffect}
 use Rattle.dash_model.specs.Machine.{Machine}
 use Rattle.dash_model.proofs.LineState.{State, Where, apply}
 
@@ -146,7 +146,7 @@ along_still w m l c q net console e f g = λ i. record {
 }
 
 -- a row that reads and changes the home only where it is its cluster's
-pub record IsLocal (c h : ℕ) (D : Cell → Home → Did) : Type 0 where
+pub record IsLocal (c h : ℕ) (D : Cell → Home → LineEffect) : Type 0 where
   pub home : c ≢ h → (a : Cell) (b : Home) → (D a b).home ≡ b
   pub cell : c ≢ h → (a : Cell) (b e : Home) → (D a b).cell ≡ (D a e).cell
   pub sent : c ≢ h → (a : Cell) (b e : Home) → (D a b).sent ≡ (D a e).sent
@@ -158,7 +158,7 @@ test_true : (c : ℕ) → (c == c) ≡ true
 test_true c = grind (arith, nat_tests)
 
 -- the line at this cluster, and maybe its home, changed by a row
-pub along_row : (w : Config) (m : Machine) (l c t : ℕ) (D : Cell → Home → Did) (q : Part) (rest net : List Packet) (console : List ℕ)
+pub along_row : (w : Config) (m : Machine) (l c t : ℕ) (D : Cell → Home → LineEffect) (q : Part) (rest net : List Packet) (console : List ℕ)
     → IsLocal c (home_of w l) D → q.cells l ≡ (D ((m.parts c).cells l) ((m.parts c).homes l)).cell
     → q.homes l ≡ (D ((m.parts c).cells l) ((m.parts c).homes l)).home → on l net ≡ send rest t c (D ((m.parts c).cells l) ((m.parts c).homes l)).sent
     → along w l (changed m c q net console) ≡ apply t c (D ((m.parts c).cells l) ((m.parts (home_of w l)).homes l)) rest (along w l m)

@@ -11,7 +11,7 @@ use Rattle.dash_msg.specs.declared.parcel.Sent.{Sent}
 use Rattle.dash_model.specs.Maps.{weigh, without, with_member}
 use Rattle.dash_model.specs.Net.{Packet, packet, parcel, in_lane, head, tail, send, to}
 use Rattle.dash_model.specs.Cell.{Copy, Held, Asked, Poisoned, Came, Refused, Slot, Reads, Owns, Acks, NoAcks, Counting, Expects, Entry, Uncached, SharedBy, Dirty, Cell, Home}
-use Rattle.dash_model.specs.Did.{Did, still}
+use Rattle.dash_model.specs.LineEffect.{LineEffect, still}
 use Rattle.dash_model.specs.Replies.{nak_acks, counted, expecting, expecting_for}
 use Rattle.dash_model.specs.Requests.{read_row, own_row, give_read, give_own, is_dirty_of, write_back_row, sharing_back_row, transfer_row, invals_to}
 use Rattle.dash_model.specs.Acts.{Act, AskRead, AskOwn, Again, Install, Commit, Evict, Drop, BusRead, BusOwn, owe, again_row, install_row, evict_row, act_row}
@@ -81,7 +81,7 @@ pub record Bounded (n : ℕ) (s : State) : Type 0 where
   pub entry : EntryBounded n s.home.entry
   pub acks : (x : ℕ) → AcksBounded n (s.cells x).acks
 
-pub record DidBounded (n : ℕ) (d : Did) : Type 0 where
+pub record DidBounded (n : ℕ) (d : LineEffect) : Type 0 where
   pub sent : SentNamed n d.sent
   pub entry : EntryBounded n d.home.entry
   pub acks : AcksBounded n d.cell.acks
@@ -165,7 +165,7 @@ transfer_bound : (n : ℕ) (l : LineId) (r : ℕ) (i : Bool) (a : Cell) (b : Hom
 transfer_bound n l r true a b e g = record { sent = (tt, tt); entry = tt; acks = g }
 transfer_bound n l r false a b e g = record { sent = tt; entry = e; acks = g }
 
-cond_bound : (n : ℕ) (i : Bool) (d e : Did) → DidBounded n d → DidBounded n e → DidBounded n (cond i d e)
+cond_bound : (n : ℕ) (i : Bool) (d e : LineEffect) → DidBounded n d → DidBounded n e → DidBounded n (cond i d e)
 cond_bound n true d e h k = h
 cond_bound n false d e h k = k
 
@@ -253,7 +253,7 @@ acks_if : (n : ℕ) (a b : Cell) (i : Bool) → AcksBounded n a.acks → AcksBou
 acks_if n a b true h k = h
 acks_if n a b false h k = k
 
-apply_bound : (n i c : ℕ) (d : Did) (net : List Packet) (s : State) → c < n → DidBounded n d → AllNamed n net → Bounded n s
+apply_bound : (n i c : ℕ) (d : LineEffect) (net : List Packet) (s : State) → c < n → DidBounded n d → AllNamed n net → Bounded n s
     → Bounded n (apply i c d net s)
 apply_bound n i c d net s l h k b = record {
   net = named-send n i c net d.sent l k h.sent;

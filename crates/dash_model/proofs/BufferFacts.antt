@@ -12,7 +12,7 @@ use Rattle.dash_event.specs.declared.event.Kind.TheVariants as kind
 use Rattle.write_buffer.specs.declared.entry.Entry.{Entry as Stored}
 use Rattle.dash_model.specs.Config.{Config, cluster_of}
 use Rattle.dash_model.specs.Part.{Processor, Part}
-use Rattle.dash_model.specs.HartRows.{Performed, entry_of, cleared, commit_row}
+use Rattle.dash_model.specs.HartRows.{HartEffect, entry_of, cleared, commit_row}
 use Rattle.dash_model.specs.Guard.{Guard}
 use Rattle.dash_model.specs.Row.{row}
 use Rattle.dash_model.specs.Machine.{Machine, Step, event_of, part_after, after, opening, AreSteps, state_after, Reaches}
@@ -34,7 +34,7 @@ pub data Effect (e : Kind) (h : ℕ) (b c : List Stored) : Type 0 where
   Gone : (x : Stored) → store_by h e ≡ [] → commit_by h e ≡ x.number ∷ [] → b ≡ x ∷ c → Effect e h b c
   More : (a : Access) → store_by h e ≡ a ∷ [] → commit_by h e ≡ [] → c ≡ b ++ entry_of a ∷ [] → Effect e h b c
 
-store_by_test : (w : Config) (c : ℕ) (a : Access) (d : Performed) (p : Part) (h : ℕ) (i : Bool) → (a.hart.0 == h) ≡ i → Effect (kind.Store a) h (p.harts h).buffer ((row w c (kind.Store a) d p).part.harts h).buffer
+store_by_test : (w : Config) (c : ℕ) (a : Access) (d : HartEffect) (p : Part) (h : ℕ) (i : Bool) → (a.hart.0 == h) ≡ i → Effect (kind.Store a) h (p.harts h).buffer ((row w c (kind.Store a) d p).part.harts h).buffer
 unfolding row
 store_by_test w c a d p h true is =
     let test : (h == a.hart.0) ≡ true = grind (arith, nat_tests) in
@@ -64,7 +64,7 @@ commit_by_test w g n k v h p x xs false is b number =
     let test : (h == g.0) ≡ false = grind (arith, nat_tests) in
     Same refl (ap (λ t. if t then n ∷ [] else []) is) (commit_row_buffer w g.0 k.0 h x xs p ∙ ap (λ t. (cond t (record (p.harts g.0) { buffer = xs }) (p.harts h)).buffer) test)
 
-effect : (w : Config) (c : ℕ) (e : Kind) (d : Performed) (p : Part) (h : ℕ) → Guard w c e d p → Effect e h (p.harts h).buffer ((row w c e d p).part.harts h).buffer
+effect : (w : Config) (c : ℕ) (e : Kind) (d : HartEffect) (p : Part) (h : ℕ) → Guard w c e d p → Effect e h (p.harts h).buffer ((row w c e d p).part.harts h).buffer
 unfolding row Guard
 effect w c (kind.Store a) d p h can = store_by_test w c a d p h (a.hart.0 == h) refl
 effect w c (kind.Commit g n k v) d p h can = subst (λ b. Effect (kind.Commit g n k v) h (p.harts h).buffer ((commit_row w g.0 k.0 b p).part.harts h).buffer) (sym can.buffer) (commit_by_test w g n k v h p can.oldest can.others (g.0 == h) refl can.buffer can.number_is)
@@ -123,18 +123,18 @@ waits_by log e h b c (More a one still more) k = more_waits log e h b c a one st
 not_mine : (w : Config) (c g h : ℕ) → cluster_of w g ≡ c → cluster_of w h ≢ c → (g == h) ≡ false
 not_mine w c g h mine other = elim (same_or_not g h) [ inl e ↦ absurd (other (ap (cluster_of w) (sym e) ∙ mine)) | inr n ↦ grind (arith, nat_tests) ]
 
-no_store : (w : Config) (c : ℕ) (e : Kind) (d : Performed) (p : Part) (h : ℕ) → cluster_of w h ≢ c → Guard w c e d p → store_by h e ≡ []
+no_store : (w : Config) (c : ℕ) (e : Kind) (d : HartEffect) (p : Part) (h : ℕ) → cluster_of w h ≢ c → Guard w c e d p → store_by h e ≡ []
 unfolding Guard
 no_store w c (kind.Store a) d p h other can = ap (λ b. if b then a ∷ [] else []) (not_mine w c a.hart.0 h can.next.mine other)
 no_store w c _ d p h other can = refl
 
-no_commit : (w : Config) (c : ℕ) (e : Kind) (d : Performed) (p : Part) (h : ℕ) → cluster_of w h ≢ c → Guard w c e d p → commit_by h e ≡ []
+no_commit : (w : Config) (c : ℕ) (e : Kind) (d : HartEffect) (p : Part) (h : ℕ) → cluster_of w h ≢ c → Guard w c e d p → commit_by h e ≡ []
 unfolding Guard
 no_commit w c (kind.Commit g n k v) d p h other can = ap (λ b. if b then n ∷ [] else []) (not_mine w c g.0 h can.mine other)
 no_commit w c _ d p h other can = refl
 
 -- the hart's part after a step
-step_by : (w : Config) (log : List Event) (e : Event) (h c : ℕ) (m : Machine) (d : Performed) (q : Part) (b : Bool) → (cluster_of w h == c) ≡ b → Guard w c e.kind d (m.parts c) → q.harts ≡ (row w c e.kind d (m.parts c)).part.harts → Waits log h ((m.parts (cluster_of w h)).harts h).buffer → Waits (log ++ e ∷ []) h ((cond b q (m.parts (cluster_of w h))).harts h).buffer
+step_by : (w : Config) (log : List Event) (e : Event) (h c : ℕ) (m : Machine) (d : HartEffect) (q : Part) (b : Bool) → (cluster_of w h == c) ≡ b → Guard w c e.kind d (m.parts c) → q.harts ≡ (row w c e.kind d (m.parts c)).part.harts → Waits log h ((m.parts (cluster_of w h)).harts h).buffer → Waits (log ++ e ∷ []) h ((cond b q (m.parts (cluster_of w h))).harts h).buffer
 step_by w log e h c m d q true is can harts k =
     let same : cluster_of w h ≡ c = grind (arith, nat_tests) in
     subst (λ z. Waits (log ++ e ∷ []) h (z h).buffer) (sym harts) (waits_by log e h ((m.parts c).harts h).buffer ((row w c e.kind d (m.parts c)).part.harts h).buffer (effect w c e.kind d (m.parts c) h can) (subst (λ z. Waits log h ((m.parts z).harts h).buffer) same k))

@@ -7,36 +7,36 @@ use Rattle.dash_event.specs.Records.{unseen}
 use Rattle.dash_event.specs.declared.access.Access.{Access}
 use Rattle.dash_event.specs.declared.event.Kind.{Kind}
 use Rattle.dash_event.specs.declared.event.Kind.TheVariants as kind
-use Rattle.rv32_decode.specs.declared.prefetch.HintKind.TheVariants.{Fetch, Shared, Exclusive}
+use Rattle.dash_base.specs.declared.need.HintKind.TheVariants.{Fetch, Shared, Exclusive}
 use Rattle.write_buffer.specs.declared.entry.Entry.{Entry as Stored}
 use Rattle.write_buffer.specs.declared.entry.Look.{Look}
 use Rattle.write_buffer.specs.declared.entry.Look.TheVariants.{Hit}
 use Rattle.write_buffer.specs.Look.{newest_of, look_by}
 use Rattle.hart_core.specs.HartState.{HartState}
 use Rattle.hart_core.specs.Meaning.{Does, retired_after}
-use Rattle.hart_core.specs.declared.need.Need.{Need}
-use Rattle.hart_core.specs.declared.need.Need.TheVariants as needed
-use Rattle.hart_core.proofs.Needed.{retires}
-use Rattle.flat_model.specs.Offered.{offered}
+use Rattle.dash_base.specs.declared.need.Need.{Need}
+use Rattle.dash_base.specs.declared.need.Need.TheVariants as needed
+use Rattle.hart_core.proofs.LawsOffered.{retires}
+use Rattle.dash_event.specs.Offered.{offered}
 use Rattle.dash_model.specs.Maps.{upd}
 use Rattle.dash_model.specs.Config.{Config, line_at, lock_at, line_id, home_of, first_prefetch}
 use Rattle.dash_model.specs.Cell.{Slot, NoSlot, Reads, Owns}
 use Rattle.dash_model.specs.Part.{Processor, Waiter, Part}
 use Rattle.dash_model.specs.Acts.{Act, AskRead, AskOwn, Again, Install, Commit, BusRead, BusOwn, act_row}
 use Rattle.dash_model.specs.LineRows.{take_row}
-use Rattle.dash_model.specs.Did.{Did}
+use Rattle.dash_model.specs.LineEffect.{LineEffect}
 use Rattle.dash_model.specs.Words.{held_by, content, written_in}
-use Rattle.flat_model.specs.Step.{reply}
+use Rattle.dash_event.specs.Effects.{reply}
 use Rattle.dash_base.specs.declared.id.WordAddr.{WordAddr}
 use Rattle.dash_base.specs.declared.id.HartId.{HartId}
 use Rattle.dash_base.specs.declared.id.LineId.{LineId}
-use Rattle.rv32_decode.specs.declared.prefetch.HintKind.{HintKind}
-use Rattle.dash_model.specs.HartRows.{Performed, cleared, on_line, acts, change, retire, hint_row, loaded_from, commit_row, entry_of, kept, rmw_reserved, evict_act, ask_act}
+use Rattle.dash_base.specs.declared.need.HintKind.{HintKind}
+use Rattle.dash_model.specs.HartRows.{HartEffect, cleared, on_line, acts, change, retire, hint_row, loaded_from, commit_row, entry_of, kept, rmw_reserved, evict_act, ask_act}
 use Rattle.dash_model.specs.HartGuards.{number_of}
 use Rattle.dash_model.specs.Guard.{Guard, DoesIf, TakeFits}
 use Rattle.dash_model.specs.LockRows.{grant_row, answered}
 use Rattle.dash_model.specs.Ranges.{own_hart, applies}
-use Rattle.dash_model.specs.Row.{row, takes, msg_row, msg_row_if}
+use Rattle.dash_model.specs.Row.{row, line_msg_row, msg_row, msg_row_if}
 
 -- what becomes of a hart's buffer: it stays, loses the oldest store, or gets one more
 pub data Buffer (e : Kind) (h : ℕ) (s t : Processor) : Type 0 where
@@ -45,11 +45,11 @@ pub data Buffer (e : Kind) (h : ℕ) (s t : Processor) : Type 0 where
   Added : (a : Access) → e ≡ kind.Store a → a.hart.0 ≡ h → a.number ≡ s.core.retired + 1 → t.buffer ≡ s.buffer ++ entry_of a ∷ [] → t.core.retired ≡ s.core.retired + 1 → Buffer e h s t
 
 -- clearing what a hart held leaves its buffer
-swept_stays : (w : Config) (l h : ℕ) (e : Kind) (s t : Processor) (b : Bool) → Buffer e h s t → Buffer e h s (cond b (cleared w l t) t)
-swept_stays w l h e s t false k = k
-swept_stays w l h e s t true (Kept b r) = Kept b r
-swept_stays w l h e s t true (Dropped z g n k v q b r) = Dropped z g n k v q b r
-swept_stays w l h e s t true (Added a is mine number b r) = Added a is mine number b r
+cleared_where_lost_stays : (w : Config) (l h : ℕ) (e : Kind) (s t : Processor) (b : Bool) → Buffer e h s t → Buffer e h s (cond b (cleared w l t) t)
+cleared_where_lost_stays w l h e s t false k = k
+cleared_where_lost_stays w l h e s t true (Kept b r) = Kept b r
+cleared_where_lost_stays w l h e s t true (Dropped z g n k v q b r) = Dropped z g n k v q b r
+cleared_where_lost_stays w l h e s t true (Added a is mine number b r) = Added a is mine number b r
 
 -- other harts stay
 at_hart : (e : Kind) (g h : ℕ) (hs : ℕ → Processor) (t : Processor) (b : Bool) → (h == g) ≡ b → Buffer e g (hs g) t → Buffer e h (hs h) (cond b t (hs h))
@@ -64,8 +64,8 @@ no_less : (w : Config) (h k : HartState) (need : Need) (answer : ℕ) → Does w
 no_less w h k need answer d = let now = retires w.image w.top h k need answer d in grind arith
 
 -- what a row of a line does to the harts, after a change of harts
-lined : (w : Config) (l : ℕ) (x : Did) (e : Kind) (h : ℕ) (p : Part) (hs : ℕ → Processor) → Buffer e h (p.harts h) (hs h) → Buffer e h (p.harts h) ((on_line w l x (record p { harts = hs })).part.harts h)
-lined w l x e h p hs k = swept_stays w l h e (p.harts h) (hs h) (held_by h (p.cells l).copy && not (held_by h x.cell.copy)) k
+lined : (w : Config) (l : ℕ) (x : LineEffect) (e : Kind) (h : ℕ) (p : Part) (hs : ℕ → Processor) → Buffer e h (p.harts h) (hs h) → Buffer e h (p.harts h) ((on_line w l x (record p { harts = hs })).part.harts h)
+lined w l x e h p hs k = cleared_where_lost_stays w l h e (p.harts h) (hs h) (held_by h (p.cells l).copy && not (held_by h x.cell.copy)) k
 
 acted : (w : Config) (l : ℕ) (a : Act) (e : Kind) (h : ℕ) (p : Part) (hs : ℕ → Processor) → Buffer e h (p.harts h) (hs h) → Buffer e h (p.harts h) ((acts w l a (record p { harts = hs })).part.harts h)
 acted w l a e h p hs k = lined w l (act_row (line_id l) (home_of w l) a (p.cells l) (p.homes l)) e h p hs k
@@ -74,7 +74,7 @@ stays : (e : Kind) (h : ℕ) (s : Processor) → Buffer e h s s
 stays e h s = Kept refl (omega arith)
 
 -- a hart that did its instruction
-did : (w : Config) (e : Kind) (g h answer : ℕ) (p : Part) (d : Performed) → Does w.image w.top (p.harts g).core d.need answer d.next → Buffer e h (p.harts h) ((retire g d p).harts h)
+did : (w : Config) (e : Kind) (g h answer : ℕ) (p : Part) (d : HartEffect) → Does w.image w.top (p.harts g).core d.need answer d.next → Buffer e h (p.harts h) ((retire g d p).harts h)
 did w e g h answer p d does = changed e g h p (record (p.harts g) { core = d.next }) (Kept refl (no_less w (p.harts g).core d.next d.need answer does))
 
 -- Hint
@@ -121,7 +121,7 @@ granted w e i h [] p = stays e h (p.harts h)
 granted w e i h (x ∷ xs) p = stays e h (p.harts h)
 
 -- LockGrant, UnlockAck: a hart whose lock instruction was sent did it
-answers : (w : Config) (e : Kind) (g h answer : ℕ) (p : Part) (d : Performed) (own asked : Bool) → own ≡ true → (p.harts g).asked ≡ asked → DoesIf (own && (p.harts g).asked) w g answer d p → Buffer e h (p.harts h) ((answered g asked d p).harts h)
+answers : (w : Config) (e : Kind) (g h answer : ℕ) (p : Part) (d : HartEffect) (own asked : Bool) → own ≡ true → (p.harts g).asked ≡ asked → DoesIf (own && (p.harts g).asked) w g answer d p → Buffer e h (p.harts h) ((answered g asked d p).harts h)
 answers w e g h answer p d own false mine is does = stays e h (p.harts h)
 answers w e g h answer p d own true mine is does =
     let both : own && (p.harts g).asked ≡ true = grind (arith, nat_tests) in
@@ -129,14 +129,14 @@ answers w e g h answer p d own true mine is does =
     changed e g h p (record (p.harts g) { core = d.next; asked = false }) (Kept refl (no_less w (p.harts g).core d.next d.need answer done))
 
 -- Take
-taken_line : (w : Config) (c f : ℕ) (q : LineId) (m : Msg) (e : Kind) (h : ℕ) (p : Part) → Buffer e h (p.harts h) ((takes w c f q m p).part.harts h)
+taken_line : (w : Config) (c f : ℕ) (q : LineId) (m : Msg) (e : Kind) (h : ℕ) (p : Part) → Buffer e h (p.harts h) ((line_msg_row w c f q m p).part.harts h)
 taken_line w c f q m e h p = lined w q.0 (take_row (first_prefetch w) (home_of w q.0) c f m (p.cells q.0) (p.homes q.0)) e h p p.harts (stays e h (p.harts h))
 
 both_left : (a b : Bool) → a && b ≡ true → a ≡ true
 both_left true b e = refl
 both_left false b e = absurd (cc)
 
-taken_msg : (w : Config) (c f : ℕ) (m : Msg) (e : Kind) (h : ℕ) (d : Performed) (p : Part) → applies w c m p ≡ true → TakeFits w c m d p → Buffer e h (p.harts h) ((msg_row w c f m d p).part.harts h)
+taken_msg : (w : Config) (c f : ℕ) (m : Msg) (e : Kind) (h : ℕ) (d : HartEffect) (p : Part) → applies w c m p ≡ true → TakeFits w c m d p → Buffer e h (p.harts h) ((msg_row w c f m d p).part.harts h)
 taken_msg w c f (Read q) e h d p does fits = taken_line w c f q (Read q) e h p
 taken_msg w c f (ReadEx q) e h d p does fits = taken_line w c f q (ReadEx q) e h p
 taken_msg w c f (FwdRead q r) e h d p does fits = taken_line w c f q (FwdRead q r) e h p
@@ -155,12 +155,12 @@ taken_msg w c f (Unlock g n word) e h d p does fits = stays e h (p.harts h)
 taken_msg w c f (LockGrant g) e h d p does fits = answers w e g.0 h 0 p d (own_hart w c g) (p.harts g.0).asked (both_left (own_hart w c g) true does) refl fits
 taken_msg w c f (UnlockAck g old) e h d p does fits = answers w e g.0 h old p d (own_hart w c g) (p.harts g.0).asked (both_left (own_hart w c g) true does) refl fits
 
-taken_if : (w : Config) (c f : ℕ) (m : Msg) (e : Kind) (h : ℕ) (d : Performed) (p : Part) (b : Bool) → applies w c m p ≡ b → TakeFits w c m d p → Buffer e h (p.harts h) ((msg_row_if b w c f m d p).part.harts h)
+taken_if : (w : Config) (c f : ℕ) (m : Msg) (e : Kind) (h : ℕ) (d : HartEffect) (p : Part) (b : Bool) → applies w c m p ≡ b → TakeFits w c m d p → Buffer e h (p.harts h) ((msg_row_if b w c f m d p).part.harts h)
 taken_if w c f m e h d p true does fits = taken_msg w c f m e h d p does fits
 taken_if w c f m e h d p false does fits = stays e h (p.harts h)
 
 -- what becomes of a hart's buffer at each event
-pub buffer_is : (w : Config) (c : ℕ) (e : Kind) (d : Performed) (p : Part) (h : ℕ) → Guard w c e d p → Buffer e h (p.harts h) ((row w c e d p).part.harts h)
+pub buffer_is : (w : Config) (c : ℕ) (e : Kind) (d : HartEffect) (p : Part) (h : ℕ) → Guard w c e d p → Buffer e h (p.harts h) ((row w c e d p).part.harts h)
 unfolding row Guard
 buffer_is w c (kind.Alu g pc) d p h can = did w (kind.Alu g pc) g.0 h 0 p d can.retires.does
 buffer_is w c (kind.Fence g pc) d p h can = did w (kind.Fence g pc) g.0 h 0 p d can.next.retires.does

@@ -11,7 +11,7 @@ use Rattle.dash_model.specs.Maps.{weigh, without, with_member}
 use Rattle.dash_model.specs.Config.{cluster_id}
 use Rattle.dash_model.specs.Net.{Packet, parcel, head, tail, to}
 use Rattle.dash_model.specs.Cell.{Copy, NoCopy, Held, Asked, Poisoned, Came, Refused, Slot, NoSlot, Reads, Owns, NoAcks, Entry, Uncached, SharedBy, Dirty, Cell}
-use Rattle.dash_model.specs.Did.{still}
+use Rattle.dash_model.specs.LineEffect.{still}
 use Rattle.dash_model.specs.Acts.{AskRead, AskOwn, Again, Install, Commit, Drop, BusRead, BusOwn, evict_row}
 use Rattle.dash_model.specs.Requests.{give_read, give_own, invals_to}
 use Rattle.dash_model.specs.OnLine.{owned, came_own, clean, one, shares, shares_msg, invals_at, datas_msg, brings_msg, gives_back_msg, datas, brings, gives_back}

@@ -10,7 +10,7 @@ use Rattle.dash_model.specs.Maps.{member, without, with_member}
 use Rattle.dash_model.specs.Config.{cluster_id}
 use Rattle.dash_model.specs.Net.{parcel, head, tail, to}
 use Rattle.dash_model.specs.Cell.{Held, NoAcks, Uncached, SharedBy, Dirty}
-use Rattle.dash_model.specs.Did.{still}
+use Rattle.dash_model.specs.LineEffect.{still}
 use Rattle.dash_model.specs.Acts.{AskRead, AskOwn, Again, Install, Commit, Drop, BusRead, BusOwn, evict_row}
 use Rattle.dash_model.specs.Requests.{give_read, give_own, invals_to}
 use Rattle.dash_model.proofs.LineState.{State, Where, Acts, Takes, apply, after, MayAct}

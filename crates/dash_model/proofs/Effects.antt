@@ -7,13 +7,13 @@ use Rattle.dash_event.specs.declared.event.Kind.{Kind}
 use Rattle.dash_event.specs.declared.event.Kind.TheVariants as kind
 use Rattle.hart_core.specs.HartState.{HartState}
 use Rattle.hart_core.specs.Meaning.{Does}
-use Rattle.hart_core.specs.declared.need.Need.{Need}
-use Rattle.hart_core.proofs.Unique.{one_need, needs_of, one_after}
+use Rattle.dash_base.specs.declared.need.Need.{Need}
+use Rattle.hart_core.proofs.LawsOffered.{one_need, needs_of, one_after}
 use Rattle.dash_model.specs.Maps.{upd}
 use Rattle.dash_model.specs.Config.{Config}
 use Rattle.dash_model.specs.Net.{Packet, send}
 use Rattle.dash_model.specs.Part.{Part}
-use Rattle.dash_model.specs.HartRows.{quiet, Performed}
+use Rattle.dash_model.specs.HartRows.{quiet, HartEffect}
 use Rattle.dash_model.specs.LockRows.{answered}
 use Rattle.dash_model.specs.Ranges.{own_hart, applies}
 use Rattle.dash_model.specs.HartGuards.{Retires}
@@ -21,7 +21,7 @@ use Rattle.dash_model.specs.Guard.{DoesIf, Guard}
 use Rattle.dash_model.specs.Row.{msg_row, msg_row_if, row}
 use Rattle.dash_model.specs.Machine.{Machine, Step, event_of, taken, less, CanHappen, after, opening, AreSteps, state_after, Reaches}
 
-same_done : (w : Config) (h : HartState) (a : ℕ) (d e : Performed) → Does w.image w.top h d.need a d.next → Does w.image w.top h e.need a e.next
+same_done : (w : Config) (h : HartState) (a : ℕ) (d e : HartEffect) → Does w.image w.top h d.need a d.next → Does w.image w.top h e.need a e.next
     → d ≡ e
 same_done w h a d e x y =
     let need : d.need ≡ e.need =
@@ -29,24 +29,24 @@ same_done w h a d e x y =
     let next : d.next ≡ e.next = one_after w.image w.top h d.next e.next e.need a (subst (λ n. Does w.image w.top h n a d.next) need x) y in
     λ i. record { need = need i; next = next i }
 
-retires_same : (w : Config) (c h : ℕ) (m n : Need) (a : ℕ) (d e : Performed) (p : Part) → Retires w c h m a d p → Retires w c h n a e p → d ≡ e
+retires_same : (w : Config) (c h : ℕ) (m n : Need) (a : ℕ) (d e : HartEffect) (p : Part) → Retires w c h m a d p → Retires w c h n a e p → d ≡ e
 retires_same w c h m n a d e p x y = same_done w (p.harts h).core a d e x.does y.does
 
 -- a message of which the row does not ask what the hart did
-msg_same : (w : Config) (c f : ℕ) (m : Msg) (d e : Performed) (p : Part) (b : Bool) → msg_row w c f m d p ≡ msg_row w c f m e p
+msg_same : (w : Config) (c f : ℕ) (m : Msg) (d e : HartEffect) (p : Part) (b : Bool) → msg_row w c f m d p ≡ msg_row w c f m e p
     → msg_row_if b w c f m d p ≡ msg_row_if b w c f m e p
 msg_same w c f m d e p true x = x
 msg_same w c f m d e p false x = refl
 
 -- an answer of a lock word
-answer_same : (w : Config) (c f h a : ℕ) (m : Msg) (d e : Performed) (p : Part) (i j : Bool)
-    → ((x : Performed) → msg_row w c f m x p ≡ quiet (answered h j x p)) → DoesIf (i && j) w h a d p → DoesIf (i && j) w h a e p
+answer_same : (w : Config) (c f h a : ℕ) (m : Msg) (d e : HartEffect) (p : Part) (i j : Bool)
+    → ((x : HartEffect) → msg_row w c f m x p ≡ quiet (answered h j x p)) → DoesIf (i && j) w h a d p → DoesIf (i && j) w h a e p
     → msg_row_if (i && true) w c f m d p ≡ msg_row_if (i && true) w c f m e p
 answer_same w c f h a m d e p true true r x y = ap (λ z. msg_row w c f m z p) (same_done w (p.harts h).core a d e x y)
 answer_same w c f h a m d e p true false r x y = r d ∙ sym (r e)
 answer_same w c f h a m d e p false j r x y = refl
 
-pub row_same : (w : Config) (c : ℕ) (k : Kind) (d e : Performed) (p : Part) → Guard w c k d p → Guard w c k e p → row w c k d p ≡ row w c k e p
+pub row_same : (w : Config) (c : ℕ) (k : Kind) (d e : HartEffect) (p : Part) → Guard w c k d p → Guard w c k e p → row w c k d p ≡ row w c k e p
 unfolding row Guard
 row_same w c (kind.Alu h pc) d e p g k = ap (λ z. row w c (kind.Alu h pc) z p) (retires_same w c h.0 _ _ 0 d e p g.retires k.retires)
 row_same w c (kind.Fence h pc) d e p g k = ap (λ z. row w c (kind.Fence h pc) z p) (retires_same w c h.0 _ _ 0 d e p g.next.retires k.next.retires)
@@ -80,7 +80,7 @@ less_same c u v (kind.Take f m) net = refl
 less_same c u v (kind.Free f a) net = refl
 less_same c u v _ net = refl
 
-after_same_event : (w : Config) (m : Machine) (e : Event) (u v : ℕ) (d f : Performed)
+after_same_event : (w : Config) (m : Machine) (e : Event) (u v : ℕ) (d f : HartEffect)
     → row w e.cluster.0 e.kind d (m.parts e.cluster.0) ≡ row w e.cluster.0 e.kind f (m.parts e.cluster.0)
     → after w m (record { event = e; stamp = u; done = d }) ≡ after w m (record { event = e; stamp = v; done = f })
 after_same_event w m e u v d f r = ap₂ (λ n x. record {

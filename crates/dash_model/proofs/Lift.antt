@@ -15,10 +15,10 @@ use Rattle.dash_model.specs.Config.{Config, line_id, lines, home_of, first_prefe
 use Rattle.dash_model.specs.Net.{Packet, parcel, head, tail, send}
 use Rattle.dash_model.specs.Cell.{Cell, Home}
 use Rattle.dash_model.specs.Part.{Part}
-use Rattle.dash_model.specs.Did.{Did}
+use Rattle.dash_model.specs.LineEffect.{LineEffect}
 use Rattle.dash_model.specs.Acts.{Act, act_row}
 use Rattle.dash_model.specs.LineRows.{take_row}
-use Rattle.dash_model.specs.HartRows.{Done, Performed}
+use Rattle.dash_model.specs.HartRows.{PartEffect, HartEffect}
 use Rattle.dash_model.specs.Ranges.{applies}
 use Rattle.dash_model.specs.Row.{msg_row_if, row}
 use Rattle.dash_model.specs.Machine.{Machine, Step, taken, AtHead, less, puts, part_after, CanHappen, after}
@@ -60,7 +60,7 @@ act_on : (w : Config) (l : ℕ) (v : Line) (m : Machine) (g : Step) (q : Part) (
 act_on w l v m g q ss a d n b h console =
     let c = g.event.cluster.0 in
     let p = m.parts g.event.cluster.0 in
-    let D : Cell → Home → Did = λ x y. act_row (line_id l) (home_of w l) a x y in
+    let D : Cell → Home → LineEffect = λ x y. act_row (line_id l) (home_of w l) a x y in
     let cells : q.cells l ≡ (act_row (line_id l) (home_of w l) a (p.cells l) (p.homes l)).cell = d.cells l ∙ ap (λ i. cond i (act_row (line_id l) (home_of w l) a (p.cells l) (p.homes l)).cell (p.cells l)) (test_true l) in
     let homes : q.homes l ≡ (act_row (line_id l) (home_of w l) a (p.cells l) (p.homes l)).home = d.homes l ∙ ap (λ i. cond i (act_row (line_id l) (home_of w l) a (p.cells l) (p.homes l)).home (p.homes l)) (test_true l) in
     let net : on l (send (less (taken c g.stamp g.event.kind) m.net) g.event.stamp c ss) ≡ send (on l m.net) g.event.stamp c (act_row (line_id l) (home_of w l) a (p.cells l) (p.homes l)).sent = ap (λ xs. on l (send (less (taken c g.stamp g.event.kind) m.net) g.event.stamp c xs)) d.sent ∙ on-send-all l g.event.stamp c (less (taken c g.stamp g.event.kind) m.net) (act_row (line_id l) (home_of w l) a (p.cells l) (p.homes l)).sent (act_sends l (home_of w l) a (p.cells l) (p.homes l)) ∙ ap (λ xs. send xs g.event.stamp c (act_row (line_id l) (home_of w l) a (p.cells l) (p.homes l)).sent) n in
@@ -102,7 +102,7 @@ line_msg l (TransferAck k) e = tt
 line_msg l (Nak k) e = tt
 
 -- a message of the line
-take_line : (w : Config) (l : ℕ) (v : Line) (m : Machine) (t c f u : ℕ) (x : Msg) (q : Done) (console : List ℕ) → is_of l x ≡ true → head f c (class_of x) m.net ≡ Some (parcel f c x u) → IsLineRow w c f x l (m.parts c) q → c < w.top.clusters → Holds w l v m → Holds w l v (changed m c (record q.part { last = t }) (send (tail f c (class_of x) m.net) t c q.sent) console)
+take_line : (w : Config) (l : ℕ) (v : Line) (m : Machine) (t c f u : ℕ) (x : Msg) (q : PartEffect) (console : List ℕ) → is_of l x ≡ true → head f c (class_of x) m.net ≡ Some (parcel f c x u) → IsLineRow w c f x l (m.parts c) q → c < w.top.clusters → Holds w l v m → Holds w l v (changed m c (record q.part { last = t }) (send (tail f c (class_of x) m.net) t c q.sent) console)
 take_line w l v m t c f u x q console o h d b k =
     let p = m.parts c in
     let first = on-head l f c (class_of x) (parcel f c x u) m.net o h in
@@ -114,7 +114,7 @@ take_line w l v m t c f u x q console o h d b k =
     }
 
 -- a message that is taken
-take_any : (w : Config) (l : ℕ) (v : Line) (m : Machine) (t c f u : ℕ) (x : Msg) (d : Performed) (console : List ℕ) (b : Bool) → applies w c x (m.parts c) ≡ b → l < lines w → c < w.top.clusters → head f c (class_of x) m.net ≡ Some (parcel f c x u) → Holds w l v m → (o : Bool) → is_of l x ≡ o → Holds w l v (changed m c (record (msg_row_if b w c f x d (m.parts c)).part { last = t }) (send (tail f c (class_of x) m.net) t c (msg_row_if b w c f x d (m.parts c)).sent) console)
+take_any : (w : Config) (l : ℕ) (v : Line) (m : Machine) (t c f u : ℕ) (x : Msg) (d : HartEffect) (console : List ℕ) (b : Bool) → applies w c x (m.parts c) ≡ b → l < lines w → c < w.top.clusters → head f c (class_of x) m.net ≡ Some (parcel f c x u) → Holds w l v m → (o : Bool) → is_of l x ≡ o → Holds w l v (changed m c (record (msg_row_if b w c f x d (m.parts c)).part { last = t }) (send (tail f c (class_of x) m.net) t c (msg_row_if b w c f x d (m.parts c)).sent) console)
 take_any w l v m t c f u x d console b e i j h k true o =
     let first = on-head l f c (class_of x) (parcel f c x u) m.net o h in
     let applied = sym e ∙ case_applies w l v c f u x (m.parts c) (along w l m) i o first refl k.invariant k.bounded in
@@ -124,7 +124,7 @@ take_any w l v m t c f u x d console b e i j h k false o =
     let s = along_still w m l c (record (msg_row_if b w c f x d (m.parts c)).part { last = t }) (send (tail f c (class_of x) m.net) t c (msg_row_if b w c f x d (m.parts c)).sent) console a.cells a.homes (on-send-none l t c (tail f c (class_of x) m.net) (msg_row_if b w c f x d (m.parts c)).sent a.sent ∙ on-tail-off l f c (class_of x) (parcel f c x u) m.net o h) in
     record { invariant = subst (Invariant (home_of w l) v) (sym s) k.invariant; bounded = subst (Bounded w.top.clusters) (sym s) k.bounded }
 
-take_kind : (w : Config) (l : ℕ) (v : Line) (m : Machine) (t c : ℕ) (f : ClusterId) (x : Msg) (u : ℕ) (d : Performed) (console : List ℕ) → l < lines w → c < w.top.clusters → head f.0 c (class_of x) m.net ≡ Some (parcel f.0 c x u) → Holds w l v m → Holds w l v (changed m c (record (row w c (kind.Take f x) d (m.parts c)).part { last = t }) (send (tail f.0 c (class_of x) m.net) t c (row w c (kind.Take f x) d (m.parts c)).sent) (console ++ []))
+take_kind : (w : Config) (l : ℕ) (v : Line) (m : Machine) (t c : ℕ) (f : ClusterId) (x : Msg) (u : ℕ) (d : HartEffect) (console : List ℕ) → l < lines w → c < w.top.clusters → head f.0 c (class_of x) m.net ≡ Some (parcel f.0 c x u) → Holds w l v m → Holds w l v (changed m c (record (row w c (kind.Take f x) d (m.parts c)).part { last = t }) (send (tail f.0 c (class_of x) m.net) t c (row w c (kind.Take f x) d (m.parts c)).sent) (console ++ []))
 unfolding row
 take_kind w l v m t c f x u d console i j h k = take_any w l v m t c f.0 u x d (console ++ []) (applies w c x (m.parts c)) refl i j h k (is_of l x) refl
 

@@ -7,7 +7,7 @@ use Rattle.dash_msg.specs.declared.msg.Msg.{Msg}
 use Rattle.dash_model.specs.Maps.{upd, raised, most}
 use Rattle.dash_model.specs.Net.{Packet, parcel, head, tail, send}
 use Rattle.dash_model.specs.Cell.{Copy, NoCopy, Held, NoSlot, NoAcks, Cell, Home}
-use Rattle.dash_model.specs.Did.{Did, has_owner, is_owner}
+use Rattle.dash_model.specs.LineEffect.{LineEffect, has_owner, is_owner}
 use Rattle.dash_model.specs.LineRows.{take_row}
 use Rattle.dash_model.specs.Acts.{Act, AskRead, AskOwn, Commit, Evict, Drop, act_row}
 
@@ -23,7 +23,7 @@ pub record Where : Type 0 where
   pub line : LineId
 
 -- cluster c did this; n is what was on its way without what it took
-abbrev pub apply : ℕ → ℕ → Did → List Packet → State → State
+abbrev pub apply : ℕ → ℕ → LineEffect → List Packet → State → State
 apply stamp c d n s = record { cells = upd s.cells c d.cell; home = d.home; net = send n stamp c d.sent }
 
 pub data Event : Type 0 where

@@ -9,7 +9,7 @@ use Rattle.dash_msg.specs.declared.msg.Msg.{Msg}
 use Rattle.dash_msg.specs.declared.msg.Msg.TheVariants.{Read, ReadEx, FwdRead, FwdReadEx, Inval, WriteBack, SharingBack, Transfer, Data, DataEx, Ack, TransferAck, Nak}
 use Rattle.dash_model.specs.Net.{parcel, head, tail}
 use Rattle.dash_model.specs.Cell.{Copy, Held, Acks, NoAcks, Entry, Uncached, SharedBy, Dirty}
-use Rattle.dash_model.specs.Did.{still}
+use Rattle.dash_model.specs.LineEffect.{still}
 use Rattle.dash_model.specs.Acts.{Act, AskRead, AskOwn, Again, Install, Commit, Evict, Drop, BusRead, BusOwn, evict_row}
 use Rattle.dash_model.specs.Requests.{read_row, own_row, give_read, give_own, is_dirty_of, write_back_row, sharing_back_row, transfer_row}
 use Rattle.dash_msg.specs.Classes.{class_of}

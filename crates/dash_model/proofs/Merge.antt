@@ -6,20 +6,20 @@ use Rattle.dash_model.specs.Config.{Config}
 use Rattle.dash_model.specs.Net.{lane}
 use Rattle.dash_model.specs.Part.{opening_part}
 use Rattle.dash_model.specs.Machine.{IsRising, Step, by, event_of, opening}
-use Rattle.dash_model.specs.LocalRun.{IsLocalRun, part_at, sent_in, received_in, LanesMeet, of_cluster, Rose, IsMergeOf, IsMergedRun}
+use Rattle.dash_model.specs.LocalRun.{IsLocalRun, part_at, sent_in, received_in, LanesMeet, of_cluster, StampsFit, IsMergeOf, IsMergedRun}
 use Rattle.dash_model.proofs.Taking.{of_own}
 use Rattle.dash_model.proofs.Ready.{AllBelow, Ready, ready_run, ready_reaches}
 use Rattle.dash_model.proofs.Lifted.{lifted}
 
 -- from the clusters' runs to their merge
-pub rose_first : (g : Step) (gs : List Step) (i : Bool) → Rose (cond i (g ∷ gs) gs) → Rose gs
+pub rose_first : (g : Step) (gs : List Step) (i : Bool) → StampsFit (cond i (g ∷ gs) gs) → StampsFit gs
 rose_first g gs true h = h.1
 rose_first g gs false h = h
 
-pub rose_of : (gs : List Step) → ((c : ℕ) → Rose (of_cluster c gs)) → Rose gs
+pub rose_of : (gs : List Step) → ((c : ℕ) → StampsFit (of_cluster c gs)) → StampsFit gs
 unfolding of_cluster
 rose_of [] h = tt
-rose_of (g ∷ gs) h = ((subst Rose (of_own g gs) (h (by g))).0, rose_of gs (λ c. rose_first g (of_cluster c gs) (by g == c) (h c)))
+rose_of (g ∷ gs) h = ((subst StampsFit (of_own g gs) (h (by g))).0, rose_of gs (λ c. rose_first g (of_cluster c gs) (by g == c) (h c)))
 
 pub none_first : (g : Step) (gs : List Step) (i : Bool) → cond i (g ∷ gs) gs ≡ [] → gs ≡ []
 none_first g gs true h = absurd (cc)
@@ -52,11 +52,11 @@ none_mapped [] e = refl
 none_mapped (g ∷ gs) e = absurd (cc)
 
 pub merge_is_run : (w : Config) (runs : ℕ → List Step) (es : List Event) → ((c : ℕ) → IsLocalRun w c (opening_part w) (runs c))
-    → (l : LanesMeet w runs) → ((c : ℕ) → Rose (runs c)) → IsMergeOf w.top.clusters (λ c. map event_of (runs c)) es → IsMergedRun w runs l.left es
+    → (l : LanesMeet w runs) → ((c : ℕ) → StampsFit (runs c)) → IsMergeOf w.top.clusters (λ c. map event_of (runs c)) es → IsMergedRun w runs l.left es
 merge_is_run w runs es local l rose i =
     let f = lifted runs es i.parts in
     let r = opening_ready w runs f.steps local l f.parts in
-    let h = rose_of f.steps (λ c. subst Rose (sym (f.parts c)) (rose c)) in
+    let h = rose_of f.steps (λ c. subst StampsFit (sym (f.parts c)) (rose c)) in
     let o = subst IsRising (sym f.events) i.rising in
     let k = ready_reaches w (opening w) f.steps l.left r o h in
     record {

@@ -13,7 +13,7 @@ use Rattle.dash_model.specs.Config.{Config, lines}
 use Rattle.dash_model.specs.Cell.{Copy, NoCopy, Held}
 use Rattle.dash_model.specs.Part.{Part}
 use Rattle.dash_model.specs.Words.{in_m, content}
-use Rattle.dash_model.specs.HartRows.{Performed}
+use Rattle.dash_model.specs.HartRows.{HartEffect}
 use Rattle.dash_model.specs.HartGuards.{CommitFits, RmwFits}
 use Rattle.dash_model.specs.Guard.{Guard}
 use Rattle.dash_model.specs.Machine.{IsRun}
@@ -30,12 +30,12 @@ owner_version (Held [] o d) h v e f = absurd (cc)
 owner_version (Held (x ∷ y ∷ ys) o d) h v e f = absurd (cc)
 owner_version NoCopy h v e f = absurd (cc)
 
-commit_fits : (w : Config) (c : ℕ) (y : Kind) (d : Performed) (p : Part) (h : HartId) (n : ℕ) (k : LineId) (v : ℕ)
+commit_fits : (w : Config) (c : ℕ) (y : Kind) (d : HartEffect) (p : Part) (h : HartId) (n : ℕ) (k : LineId) (v : ℕ)
     → y ≡ kind.Commit h n k v → Guard w c y d p → CommitFits w c h.0 n k.0 v p
 unfolding Guard
 commit_fits w c y d p h n k v e g = subst (λ z. Guard w c z d p) e g
 
-rmw_fits : (w : Config) (c : ℕ) (y : Kind) (d : Performed) (p : Part) (a : Access) (k : LineId) (v : ℕ)
+rmw_fits : (w : Config) (c : ℕ) (y : Kind) (d : HartEffect) (p : Part) (a : Access) (k : LineId) (v : ℕ)
     → y ≡ kind.Rmw a k v → Guard w c y d p → RmwFits w c a k.0 v d p
 unfolding Guard
 rmw_fits w c y d p a k v e g = subst (λ z. Guard w c z d p) e g

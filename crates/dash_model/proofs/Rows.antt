@@ -11,7 +11,7 @@ use Rattle.dash_model.specs.Maps.{weigh, without}
 use Rattle.dash_model.specs.Config.{cluster_id}
 use Rattle.dash_model.specs.Net.{Packet, parcel, head, tail, to}
 use Rattle.dash_model.specs.Cell.{Held, Asked, Poisoned, Came, Refused, Slot, Reads, Owns, NoAcks, Uncached, SharedBy, Dirty}
-use Rattle.dash_model.specs.Did.{still}
+use Rattle.dash_model.specs.LineEffect.{still}
 use Rattle.dash_model.specs.Replies.{nak_slot, nak_acks}
 use Rattle.dash_model.specs.Acts.{AskRead, AskOwn, Again, Install, Commit, Drop, BusRead, BusOwn, again_row, install_row, evict_row}
 use Rattle.dash_model.specs.Requests.{give_read, give_own, invals_to}

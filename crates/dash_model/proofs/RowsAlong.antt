@@ -9,7 +9,7 @@ use Rattle.dash_model.specs.Maps.{without}
 use Rattle.dash_model.specs.Config.{line_id}
 use Rattle.dash_model.specs.Net.{to}
 use Rattle.dash_model.specs.Cell.{Copy, Held, Came, Refused, Slot, Reads, Owns, Acks, NoAcks, Entry, Uncached, SharedBy, Dirty, Cell, Home}
-use Rattle.dash_model.specs.Did.{Did, still}
+use Rattle.dash_model.specs.LineEffect.{LineEffect, still}
 use Rattle.dash_model.specs.Requests.{invals_to, read_row, own_row, give_read, give_own, is_dirty_of, write_back_row, sharing_back_row, transfer_row}
 use Rattle.dash_model.specs.Acts.{Act, AskRead, AskOwn, Again, Install, Commit, Evict, Drop, BusRead, BusOwn, act_row, again_row, install_row, evict_row}
 use Rattle.dash_model.specs.LineRows.{take_row}
@@ -54,7 +54,7 @@ sends_transfer : (l : LineId) (r : ℕ) (i : Bool) (a : Cell) (b : Home) → All
 sends_transfer l r true a b = (self l.0, tt)
 sends_transfer l r false a b = tt
 
-sends_if : (k : ℕ) (i : Bool) (d e : Did) → AllAre k true d.sent → AllAre k true e.sent → AllAre k true (cond i d e).sent
+sends_if : (k : ℕ) (i : Bool) (d e : LineEffect) → AllAre k true d.sent → AllAre k true e.sent → AllAre k true (cond i d e).sent
 sends_if k true d e h g = h
 sends_if k false d e h g = g
 

@@ -10,15 +10,14 @@ use Rattle.dash_event.specs.declared.event.Kind.{Kind}
 use Rattle.dash_event.specs.declared.event.Kind.TheVariants as kind
 use Rattle.write_buffer.specs.declared.entry.Entry.{Entry as Stored}
 use Rattle.hart_core.specs.Access.{IsProper}
-use Rattle.hart_core.specs.declared.need.Need.{Need}
-use Rattle.hart_core.specs.declared.need.Need.TheVariants as needed
-use Rattle.hart_core.proofs.Needed.{proper}
-use Rattle.hart_core.proofs.Unique.{needs_of}
-use Rattle.flat_model.specs.Offered.{offered}
-use Rattle.flat_model.specs.Step.{is_of_memory, reply}
+use Rattle.dash_base.specs.declared.need.Need.{Need}
+use Rattle.dash_base.specs.declared.need.Need.TheVariants as needed
+use Rattle.hart_core.proofs.LawsOffered.{proper, needs_of}
+use Rattle.dash_event.specs.Offered.{offered}
+use Rattle.dash_event.specs.Effects.{is_of_memory, reply}
 use Rattle.dash_model.specs.Config.{Config, hart_id, cluster_of}
 use Rattle.dash_model.specs.Part.{Processor, Part}
-use Rattle.dash_model.specs.HartRows.{Performed, entry_of}
+use Rattle.dash_model.specs.HartRows.{HartEffect, entry_of}
 use Rattle.dash_model.specs.HartGuards.{number_of}
 use Rattle.dash_model.specs.Guard.{Guard}
 use Rattle.dash_model.specs.Row.{row}
@@ -76,7 +75,7 @@ store_access h number need a word mask value old ok is made =
     let same : unseen a ≡ unwrap_or (offered h number (needed.Store word mask value) old ok) (unseen a) = ap (λ z. unwrap_or z (unseen a)) now in
     (ap (λ z. is_of_memory z.op) same, ap (λ z. z.written) same)
 
-store_writes : (w : Config) (c : ℕ) (a : Access) (d : Performed) (p : Part) → Guard w c (kind.Store a) d p → IsWrite w a
+store_writes : (w : Config) (c : ℕ) (a : Access) (d : HartEffect) (p : Part) → Guard w c (kind.Store a) d p → IsWrite w a
 unfolding Guard
 store_writes w c a d p can =
     let made = store_access a.hart.0 (number_of a.hart.0 p) d.need a a.word a.mask can.value 0 false can.next.need_is can.access.made in
@@ -84,7 +83,7 @@ store_writes w c a d p can =
     record { of_memory = made.0; inside = subst (IsProper w.top) can.next.need_is inside; value = can.value; written = made.1 }
 
 -- a store has the number of its hart's last instruction
-store_number : (w : Config) (c : ℕ) (a : Access) (d : Performed) (p : Part) (h : ℕ) → Guard w c (kind.Store a) d p → h ≡ a.hart.0 → ((row w c (kind.Store a) d p).part.harts h).core.retired ≡ a.number
+store_number : (w : Config) (c : ℕ) (a : Access) (d : HartEffect) (p : Part) (h : ℕ) → Guard w c (kind.Store a) d p → h ≡ a.hart.0 → ((row w c (kind.Store a) d p).part.harts h).core.retired ≡ a.number
 unfolding row Guard
 store_number w c a d p h can same =
     let test : (h == a.hart.0) ≡ true = grind (arith, nat_tests) in
@@ -92,7 +91,7 @@ store_number w c a d p h can same =
     let number = number_is a.hart.0 (number_of a.hart.0 p) d.need a a.word a.mask can.value 0 false can.next.need_is can.access.made in
     ap (λ b. (cond b next (p.harts h)).core.retired) test ∙ store_retires w (p.harts a.hart.0).core d.next d.need (reply a.read a.written) a.word a.mask can.value can.next.need_is can.next.does ∙ sym number
 
-store_mine : (w : Config) (c : ℕ) (a : Access) (d : Performed) (p : Part) → Guard w c (kind.Store a) d p → cluster_of w a.hart.0 ≡ c
+store_mine : (w : Config) (c : ℕ) (a : Access) (d : HartEffect) (p : Part) → Guard w c (kind.Store a) d p → cluster_of w a.hart.0 ≡ c
 unfolding Guard
 store_mine w c a d p can = can.next.mine
 
@@ -106,7 +105,7 @@ not_this h n a true true e f low =
     absurd (omega arith)
 
 -- an event stores nothing under a number that its hart has not come to
-beyond : (w : Config) (c : ℕ) (e : Kind) (d : Performed) (p : Part) (h n : ℕ) → Guard w c e d p → (cluster_of w h ≡ c → ((row w c e d p).part.harts h).core.retired < n) → store_in (hart_id h) n e ≡ []
+beyond : (w : Config) (c : ℕ) (e : Kind) (d : HartEffect) (p : Part) (h n : ℕ) → Guard w c e d p → (cluster_of w h ≡ c → ((row w c e d p).part.harts h).core.retired < n) → store_in (hart_id h) n e ≡ []
 beyond w c (kind.Store a) d p h n can low =
     not_this h n a (a.hart.0 == h) (a.number == n) refl refl (λ same. (let less = low (ap (cluster_of w) same ∙ store_mine w c a d p can) in let number = store_number w c a d p h can same in omega arith))
 beyond w c _ d p h n can low = refl
@@ -132,7 +131,7 @@ waiting_by w log e h s t (Added a is mine number b r) writes k =
     let one : IsStored w (log ++ e ∷ []) h (entry_of a) = record { access = a; found = new_store log e h a is mine (k.none a.number more); entry = refl; writes = writes a is } in
     subst (AllStored w (log ++ e ∷ []) h) (sym b) (all_added w (log ++ e ∷ []) h s.buffer (entry_of a) (all_kept w log (e ∷ []) h s.buffer k.waiting) one)
 
-hart_listed : (w : Config) (c : ℕ) (log : List Event) (e : Event) (d : Performed) (p : Part) (h : ℕ) → Guard w c e.kind d p → IsListed w log h (p.harts h) → IsListed w (log ++ e ∷ []) h ((row w c e.kind d p).part.harts h)
+hart_listed : (w : Config) (c : ℕ) (log : List Event) (e : Event) (d : HartEffect) (p : Part) (h : ℕ) → Guard w c e.kind d p → IsListed w log h (p.harts h) → IsListed w (log ++ e ∷ []) h ((row w c e.kind d p).part.harts h)
 hart_listed w c log e d p h can k =
     let s = p.harts h in
     let t = (row w c e.kind d p).part.harts h in
@@ -143,13 +142,13 @@ hart_listed w c log e d p h can k =
       none = λ n low. stores_more log e h n ∙ ap₂ (λ xs ys. xs ++ ys) (k.none n (omega (arith, less, low))) (beyond w c e.kind d p h n can (λ z. low));
     }
 
-other_listed : (w : Config) (c : ℕ) (log : List Event) (e : Event) (d : Performed) (p : Part) (h : ℕ) (s : Processor) → cluster_of w h ≢ c → Guard w c e.kind d p → IsListed w log h s → IsListed w (log ++ e ∷ []) h s
+other_listed : (w : Config) (c : ℕ) (log : List Event) (e : Event) (d : HartEffect) (p : Part) (h : ℕ) (s : Processor) → cluster_of w h ≢ c → Guard w c e.kind d p → IsListed w log h s → IsListed w (log ++ e ∷ []) h s
 other_listed w c log e d p h s differs can k = record {
   waiting = all_kept w log (e ∷ []) h s.buffer k.waiting;
   none = λ n low. stores_more log e h n ∙ ap₂ (λ xs ys. xs ++ ys) (k.none n low) (beyond w c e.kind d p h n can (λ same. absurd (differs same)));
 }
 
-listed_by : (w : Config) (log : List Event) (e : Event) (h c : ℕ) (m : Machine) (d : Performed) (q : Part) (b : Bool) → (cluster_of w h == c) ≡ b → Guard w c e.kind d (m.parts c) → q.harts ≡ (row w c e.kind d (m.parts c)).part.harts → IsListed w log h ((m.parts (cluster_of w h)).harts h) → IsListed w (log ++ e ∷ []) h ((cond b q (m.parts (cluster_of w h))).harts h)
+listed_by : (w : Config) (log : List Event) (e : Event) (h c : ℕ) (m : Machine) (d : HartEffect) (q : Part) (b : Bool) → (cluster_of w h == c) ≡ b → Guard w c e.kind d (m.parts c) → q.harts ≡ (row w c e.kind d (m.parts c)).part.harts → IsListed w log h ((m.parts (cluster_of w h)).harts h) → IsListed w (log ++ e ∷ []) h ((cond b q (m.parts (cluster_of w h))).harts h)
 listed_by w log e h c m d q true is can harts k =
     let same : cluster_of w h ≡ c = grind (arith, nat_tests) in
     subst (λ z. IsListed w (log ++ e ∷ []) h (z h)) (sym harts) (hart_listed w c log e d (m.parts c) h can (subst (λ z. IsListed w log h ((m.parts z).harts h)) same k))

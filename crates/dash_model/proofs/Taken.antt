@@ -13,10 +13,10 @@ use Rattle.dash_model.specs.Net.{parcel, head}
 use Rattle.dash_model.specs.Cell.{Asked, Poisoned, Came, Refused, Slot, NoSlot, Reads, Owns, Acks, NoAcks, Counting, Expects}
 use Rattle.dash_model.specs.Part.{Part}
 use Rattle.dash_model.specs.LineRows.{take_row}
-use Rattle.dash_model.specs.HartRows.{Done, quiet, Performed}
+use Rattle.dash_model.specs.HartRows.{PartEffect, quiet, HartEffect}
 use Rattle.dash_model.specs.LockRows.{answered}
 use Rattle.dash_model.specs.Ranges.{at_home, has_line, has_cluster, got_fits, in_range, applies}
-use Rattle.dash_model.specs.Row.{takes, msg_row, msg_row_if}
+use Rattle.dash_model.specs.Row.{line_msg_row, msg_row, msg_row_if}
 use Rattle.dash_model.specs.OnLine.{counts_to, acks_to, one, is_of}
 use Rattle.dash_model.proofs.LineState.{State}
 use Rattle.dash_model.proofs.Weigh.{cut}
@@ -40,12 +40,12 @@ no_line : (k l : ℕ) → (k == l) ≡ false → l ≢ k
 no_line k l e = grind (arith, nat_tests)
 
 -- another line is left
-pub record LeavesLine (l : ℕ) (p : Part) (d : Done) : Type 0 where
+pub record LeavesLine (l : ℕ) (p : Part) (d : PartEffect) : Type 0 where
   pub cells : d.part.cells l ≡ p.cells l
   pub homes : d.part.homes l ≡ p.homes l
   pub sent : AllAre l false d.sent
 
-line_off : (w : Config) (c f : ℕ) (k : LineId) (m : Msg) (p : Part) (l : ℕ) → is_of k.0 m ≡ true → (k.0 == l) ≡ false → LeavesLine l p (takes w c f k m p)
+line_off : (w : Config) (c f : ℕ) (k : LineId) (m : Msg) (p : Part) (l : ℕ) → is_of k.0 m ≡ true → (k.0 == l) ≡ false → LeavesLine l p (line_msg_row w c f k m p)
 line_off w c f k m p l o e =
     let n = no_line k.0 l e in
     let t = test_false l k.0 n in
@@ -55,11 +55,11 @@ line_off w c f k m p l o e =
       sent = all_other k.0 l (take_row (first_prefetch w) (home_of w k.0) c f m (p.cells k.0) (p.homes k.0)).sent (take_sends k.0 (first_prefetch w) (home_of w k.0) c f m (p.cells k.0) (p.homes k.0) o) n;
     }
 
-answered_off : (h l : ℕ) (b : Bool) (d : Performed) (p : Part) → LeavesLine l p (quiet (answered h b d p))
+answered_off : (h l : ℕ) (b : Bool) (d : HartEffect) (p : Part) → LeavesLine l p (quiet (answered h b d p))
 answered_off h l true d p = record { cells = refl; homes = refl; sent = tt }
 answered_off h l false d p = record { cells = refl; homes = refl; sent = tt }
 
-take_off : (w : Config) (c f : ℕ) (m : Msg) (d : Performed) (p : Part) (l : ℕ) → is_of l m ≡ false → LeavesLine l p (msg_row w c f m d p)
+take_off : (w : Config) (c f : ℕ) (m : Msg) (d : HartEffect) (p : Part) (l : ℕ) → is_of l m ≡ false → LeavesLine l p (msg_row w c f m d p)
 take_off w c f (Read k) d p l e = line_off w c f k (Read k) p l (test_true k.0) e
 take_off w c f (ReadEx k) d p l e = line_off w c f k (ReadEx k) p l (test_true k.0) e
 take_off w c f (FwdRead k r) d p l e = line_off w c f k (FwdRead k r) p l (test_true k.0) e
@@ -78,24 +78,24 @@ take_off w c f (Nak k) d p l e = line_off w c f k (Nak k) p l (test_true k.0) e
 take_off w c f (LockGrant h) d p l e = answered_off h.0 l (p.harts h.0).asked d p
 take_off w c f (UnlockAck h old) d p l e = answered_off h.0 l (p.harts h.0).asked d p
 
-pub take_off_if : (w : Config) (c f : ℕ) (m : Msg) (d : Performed) (p : Part) (l : ℕ) (b : Bool) → is_of l m ≡ false → LeavesLine l p (msg_row_if b w c f m d p)
+pub take_off_if : (w : Config) (c f : ℕ) (m : Msg) (d : HartEffect) (p : Part) (l : ℕ) (b : Bool) → is_of l m ≡ false → LeavesLine l p (msg_row_if b w c f m d p)
 take_off_if w c f m d p l true e = take_off w c f m d p l e
 take_off_if w c f m d p l false e = record { cells = refl; homes = refl; sent = tt }
 
 -- the line's row
-pub record IsLineRow (w : Config) (c f : ℕ) (m : Msg) (l : ℕ) (p : Part) (d : Done) : Type 0 where
+pub record IsLineRow (w : Config) (c f : ℕ) (m : Msg) (l : ℕ) (p : Part) (d : PartEffect) : Type 0 where
   pub cells : d.part.cells l ≡ (take_row (first_prefetch w) (home_of w l) c f m (p.cells l) (p.homes l)).cell
   pub homes : d.part.homes l ≡ (take_row (first_prefetch w) (home_of w l) c f m (p.cells l) (p.homes l)).home
   pub sent : d.sent ≡ (take_row (first_prefetch w) (home_of w l) c f m (p.cells l) (p.homes l)).sent
 
-line_on : (w : Config) (c f : ℕ) (k : LineId) (m : Msg) (p : Part) (l : ℕ) → (k.0 == l) ≡ true → IsLineRow w c f m l p (takes w c f k m p)
-line_on w c f k m p l e = subst (λ y. IsLineRow w c f m y p (takes w c f k m p)) (sym (is_line k.0 l e)) (record {
+line_on : (w : Config) (c f : ℕ) (k : LineId) (m : Msg) (p : Part) (l : ℕ) → (k.0 == l) ≡ true → IsLineRow w c f m l p (line_msg_row w c f k m p)
+line_on w c f k m p l e = subst (λ y. IsLineRow w c f m y p (line_msg_row w c f k m p)) (sym (is_line k.0 l e)) (record {
   cells = ap (λ i. cond i (take_row (first_prefetch w) (home_of w k.0) c f m (p.cells k.0) (p.homes k.0)).cell (p.cells k.0)) (test_true k.0);
   homes = ap (λ i. cond i (take_row (first_prefetch w) (home_of w k.0) c f m (p.cells k.0) (p.homes k.0)).home (p.homes k.0)) (test_true k.0);
   sent = refl;
 })
 
-take_on : (w : Config) (c f : ℕ) (m : Msg) (d : Performed) (p : Part) (l : ℕ) → is_of l m ≡ true → IsLineRow w c f m l p (msg_row w c f m d p)
+take_on : (w : Config) (c f : ℕ) (m : Msg) (d : HartEffect) (p : Part) (l : ℕ) → is_of l m ≡ true → IsLineRow w c f m l p (msg_row w c f m d p)
 take_on w c f (Read k) d p l e = line_on w c f k (Read k) p l e
 take_on w c f (ReadEx k) d p l e = line_on w c f k (ReadEx k) p l e
 take_on w c f (FwdRead k r) d p l e = line_on w c f k (FwdRead k r) p l e
@@ -114,7 +114,7 @@ take_on w c f (Nak k) d p l e = line_on w c f k (Nak k) p l e
 take_on w c f (LockGrant h) d p l e = absurd (cc)
 take_on w c f (UnlockAck h old) d p l e = absurd (cc)
 
-pub take_on_if : (w : Config) (c f : ℕ) (m : Msg) (d : Performed) (p : Part) (l : ℕ) (b : Bool) → b ≡ true → is_of l m ≡ true → IsLineRow w c f m l p (msg_row_if b w c f m d p)
+pub take_on_if : (w : Config) (c f : ℕ) (m : Msg) (d : HartEffect) (p : Part) (l : ℕ) (b : Bool) → b ≡ true → is_of l m ≡ true → IsLineRow w c f m l p (msg_row_if b w c f m d p)
 take_on_if w c f m d p l true t e = take_on w c f m d p l e
 take_on_if w c f m d p l false t e = absurd (cc)
 

@@ -19,16 +19,15 @@ use Rattle.dash_event.specs.declared.event.Kind.{Kind}
 use Rattle.dash_event.specs.declared.event.Kind.TheVariants as kind
 use Rattle.dash_event.specs.declared.step_record.StepRecord.TheVariants as step
 use Rattle.hart_core.specs.Access.{IsProper, IsInMemory}
-use Rattle.hart_core.specs.declared.need.Need.TheVariants as needed
-use Rattle.hart_core.proofs.Needed.{proper}
-use Rattle.hart_core.proofs.Unique.{needs_of}
-use Rattle.flat_model.specs.Offered.{offered}
-use Rattle.flat_model.specs.Step.{is_of_memory, reply, word_after}
+use Rattle.dash_base.specs.declared.need.Need.TheVariants as needed
+use Rattle.hart_core.proofs.LawsOffered.{proper, needs_of}
+use Rattle.dash_event.specs.Offered.{offered}
+use Rattle.dash_event.specs.Effects.{is_of_memory, reply, word_after}
 use Rattle.dash_model.specs.Maps.{raised, most}
 use Rattle.dash_model.specs.Config.{Config, line_id, cluster_of, line_at, place_of, opening_line}
 use Rattle.dash_model.specs.Part.{Part}
 use Rattle.dash_model.specs.Words.{in_m, content, word_in, written_in}
-use Rattle.dash_model.specs.HartRows.{Performed}
+use Rattle.dash_model.specs.HartRows.{HartEffect}
 use Rattle.dash_model.specs.HartGuards.{number_of}
 use Rattle.dash_model.specs.Guard.{Guard}
 use Rattle.dash_model.specs.Log.{commit_in, commits_of}
@@ -99,7 +98,7 @@ rmw_access h number a word op operand old labels made =
     let same : unseen a ≡ unwrap_or (offered h number (needed.Rmw word op operand labels) old true) (unseen a) = ap (λ z. unwrap_or z (unseen a)) made in
     (ap (λ z. is_of_memory z.op) same, _, ap (λ z. z.written) same)
 
-rmw_writes : (w : Config) (c : ℕ) (a : Access) (k : LineId) (v : ℕ) (d : Performed) (p : Part) → Guard w c (kind.Rmw a k v) d p → IsWrite w a
+rmw_writes : (w : Config) (c : ℕ) (a : Access) (k : LineId) (v : ℕ) (d : HartEffect) (p : Part) → Guard w c (kind.Rmw a k v) d p → IsWrite w a
 unfolding Guard
 rmw_writes w c a k v d p can =
     let old = word_in w a.word.0 (content (p.cells k.0).copy) in
@@ -112,7 +111,7 @@ pub record Knows (w : Config) (c : ℕ) (log : List Event) (l : ℕ) (d : Line) 
   pub listed : (h : ℕ) → cluster_of w h ≡ c → IsListed w log h (p.harts h)
   pub owned : (h : ℕ) → in_m h (p.cells l).copy ≡ true → content (p.cells l).copy ≡ d
 
-commit_told : (w : Config) (c : ℕ) (log : List Event) (e : Event) (l : ℕ) (d : Line) (h : HartId) (n v : ℕ) (k : LineId) (x : Performed) (p : Part) (b : Bool) → (k.0 == l) ≡ b → e.kind ≡ kind.Commit h n k v → Guard w c (kind.Commit h n k v) x p → Knows w c log l d p → Told w log l d → Told w (log ++ e ∷ []) l (cond b (stored_over w (p.harts h.0).buffer (content (p.cells k.0).copy)) d)
+commit_told : (w : Config) (c : ℕ) (log : List Event) (e : Event) (l : ℕ) (d : Line) (h : HartId) (n v : ℕ) (k : LineId) (x : HartEffect) (p : Part) (b : Bool) → (k.0 == l) ≡ b → e.kind ≡ kind.Commit h n k v → Guard w c (kind.Commit h n k v) x p → Knows w c log l d p → Told w log l d → Told w (log ++ e ∷ []) l (cond b (stored_over w (p.harts h.0).buffer (content (p.cells k.0).copy)) d)
 unfolding Guard
 commit_told w c log e l d h n v k x p false test is can knows t = told_stays w log e l d (ap (commit_in (line_id l)) is ∙ ap (λ b. if b then kind.Commit h n k v ∷ [] else []) test) t
 commit_told w c log e l d h n v k x p true test is can knows t =
@@ -126,7 +125,7 @@ commit_told w c log e l d h n v k x p true test is can knows t =
     let makes : stored_over w (p.harts h.0).buffer (content (p.cells k.0).copy) ≡ written_in w a.word.0 a.mask (unwrap_or a.written 0) d = ap (λ b. stored_over w b (content (p.cells k.0).copy)) can.buffer ∙ sym (ap (λ z. written_in w z.word.0 z.mask z.value (content (p.cells k.0).copy)) first.entry) ∙ ap (written_in w a.word.0 a.mask (unwrap_or a.written 0)) current in
     subst (Told w (log ++ e ∷ []) l) (sym makes) (told_writes w log e l d (kind.Commit h n k v) a (ap (commit_in (line_id l)) is ∙ ap (λ b. if b then kind.Commit h n k v ∷ [] else []) test) (λ more. store_kept log (e ∷ more) h.0 n a found) first.writes here t)
 
-rmw_told : (w : Config) (c : ℕ) (log : List Event) (e : Event) (l : ℕ) (d : Line) (a : Access) (k : LineId) (v : ℕ) (x : Performed) (p : Part) (b : Bool) → (k.0 == l) ≡ b → e.kind ≡ kind.Rmw a k v → Guard w c (kind.Rmw a k v) x p → Knows w c log l d p → Told w log l d → Told w (log ++ e ∷ []) l (cond b (written_in w a.word.0 a.mask (unwrap_or a.written 0) (content (p.cells k.0).copy)) d)
+rmw_told : (w : Config) (c : ℕ) (log : List Event) (e : Event) (l : ℕ) (d : Line) (a : Access) (k : LineId) (v : ℕ) (x : HartEffect) (p : Part) (b : Bool) → (k.0 == l) ≡ b → e.kind ≡ kind.Rmw a k v → Guard w c (kind.Rmw a k v) x p → Knows w c log l d p → Told w log l d → Told w (log ++ e ∷ []) l (cond b (written_in w a.word.0 a.mask (unwrap_or a.written 0) (content (p.cells k.0).copy)) d)
 unfolding Guard
 rmw_told w c log e l d a k v x p false test is can knows t = told_stays w log e l d (ap (commit_in (line_id l)) is ∙ ap (λ b. if b then kind.Rmw a k v ∷ [] else []) test) t
 rmw_told w c log e l d a k v x p true test is can knows t =
@@ -135,7 +134,7 @@ rmw_told w c log e l d a k v x p true test is can knows t =
     subst (λ z. Told w (log ++ e ∷ []) l (written_in w a.word.0 a.mask (unwrap_or a.written 0) z)) (sym current) (told_writes w log e l d (kind.Rmw a k v) a (ap (commit_in (line_id l)) is ∙ ap (λ b. if b then kind.Rmw a k v ∷ [] else []) test) (λ more. refl) (rmw_writes w c a k v x p can) (can.line ∙ same) t)
 
 -- each event keeps that the log tells the content
-pub told_step : (w : Config) (c : ℕ) (log : List Event) (e : Event) (l : ℕ) (d : Line) (x : Performed) (p : Part) (z : Kind) → e.kind ≡ z → Guard w c z x p → Knows w c log l d p → Told w log l d → Told w (log ++ e ∷ []) l (content_by w p l d z)
+pub told_step : (w : Config) (c : ℕ) (log : List Event) (e : Event) (l : ℕ) (d : Line) (x : HartEffect) (p : Part) (z : Kind) → e.kind ≡ z → Guard w c z x p → Knows w c log l d p → Told w log l d → Told w (log ++ e ∷ []) l (content_by w p l d z)
 told_step w c log e l d x p (kind.Commit h n k v) is can knows t = commit_told w c log e l d h n v k x p (k.0 == l) refl is can knows t
 told_step w c log e l d x p (kind.Rmw a k v) is can knows t = rmw_told w c log e l d a k v x p (k.0 == l) refl is can knows t
 told_step w c log e l d x p _ is can knows t = told_stays w log e l d (ap (commit_in (line_id l)) is) t

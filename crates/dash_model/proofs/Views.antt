@@ -9,20 +9,20 @@ use Rattle.dash_msg.specs.declared.parcel.Sent.{Sent}
 use Rattle.dash_event.specs.declared.access.Access.{Access}
 use Rattle.dash_event.specs.declared.event.Kind.{Kind}
 use Rattle.dash_event.specs.declared.event.Kind.TheVariants as kind
-use Rattle.rv32_decode.specs.declared.prefetch.HintKind.{HintKind}
-use Rattle.rv32_decode.specs.declared.prefetch.HintKind.TheVariants.{Fetch, Shared, Exclusive}
+use Rattle.dash_base.specs.declared.need.HintKind.{HintKind}
+use Rattle.dash_base.specs.declared.need.HintKind.TheVariants.{Fetch, Shared, Exclusive}
 use Rattle.write_buffer.specs.declared.entry.Entry.{Entry as Stored}
-use Rattle.hart_core.specs.declared.need.Need.{Need}
-use Rattle.hart_core.specs.declared.need.Need.TheVariants as needed
+use Rattle.dash_base.specs.declared.need.Need.{Need}
+use Rattle.dash_base.specs.declared.need.Need.TheVariants as needed
 use Rattle.dash_model.specs.Maps.{upd}
 use Rattle.dash_model.specs.Config.{Config, line_id, home_of, line_at, lock_at}
 use Rattle.dash_model.specs.Cell.{Copy, NoCopy, Held, NoSlot, NoAcks, Cell}
 use Rattle.dash_model.specs.Part.{Waiter, Part}
-use Rattle.dash_model.specs.Did.{has_copy, is_owner}
+use Rattle.dash_model.specs.LineEffect.{has_copy, is_owner}
 use Rattle.dash_model.specs.Acts.{Act, AskRead, AskOwn, Again, Install, Commit, Evict, Drop, BusRead, BusOwn, act_row}
 use Rattle.dash_model.specs.Words.{in_m, content, written_in}
 use Rattle.dash_model.specs.Wants.{MayAsk, AsksFor, FrontReads, FrontOwns, StoreOwns, Opens}
-use Rattle.dash_model.specs.HartRows.{Performed, retire, hint_row, commit_row, evict_act, ask_act}
+use Rattle.dash_model.specs.HartRows.{HartEffect, retire, hint_row, commit_row, evict_act, ask_act}
 use Rattle.dash_model.specs.LockRows.{grant_row}
 use Rattle.dash_model.specs.HartGuards.{SlotIs, LockSends}
 use Rattle.dash_model.specs.Guard.{Guard}
@@ -76,16 +76,16 @@ no_copy : (c : Copy) → has_copy c ≡ false → c ≡ NoCopy
 no_copy NoCopy e = refl
 no_copy (Held hs o d) e = absurd (cc)
 
-hint_slot : (w : Config) (h pc : ℕ) (x : HartId) (n : ℕ) (d : Performed) (p : Part) (k : HintKind) (address : ℕ) → Opens w k address n p → View w (kind.Hint x pc (Some n)) p (hint_row w h (Some n) (needed.Hint k address) (retire h d p)).part (hint_row w h (Some n) (needed.Hint k address) (retire h d p)).sent
+hint_slot : (w : Config) (h pc : ℕ) (x : HartId) (n : ℕ) (d : HartEffect) (p : Part) (k : HintKind) (address : ℕ) → Opens w k address n p → View w (kind.Hint x pc (Some n)) p (hint_row w h (Some n) (needed.Hint k address) (retire h d p)).part (hint_row w h (Some n) (needed.Hint k address) (retire h d p)).sent
 hint_slot w h pc x n d p Fetch address o = absurd o.kinds
 hint_slot w h pc x n d p Shared address o = plain w (kind.Hint x pc (Some n)) p (hint_row w h (Some n) (needed.Hint Shared address) (retire h d p)).part (line_at w address) (AskRead n h) (o.lone, no_copy (p.cells (line_at w address)).copy o.kinds) (λ l. refl) (λ l. refl) (λ l v. refl) (λ v. refl)
 hint_slot w h pc x n d p Exclusive address o = plain w (kind.Hint x pc (Some n)) p (hint_row w h (Some n) (needed.Hint Exclusive address) (retire h d p)).part (line_at w address) (AskOwn n h) (o.lone, o.kinds.0) (λ l. refl) (λ l. refl) (λ l v. refl) (λ v. refl)
 
-hint_kind : (w : Config) (h pc : ℕ) (x : HartId) (slot : Option ℕ) (d : Performed) (p : Part) (k : HintKind) (address : ℕ) → SlotIs w k address slot p → View w (kind.Hint x pc slot) p (hint_row w h slot (needed.Hint k address) (retire h d p)).part (hint_row w h slot (needed.Hint k address) (retire h d p)).sent
+hint_kind : (w : Config) (h pc : ℕ) (x : HartId) (slot : Option ℕ) (d : HartEffect) (p : Part) (k : HintKind) (address : ℕ) → SlotIs w k address slot p → View w (kind.Hint x pc slot) p (hint_row w h slot (needed.Hint k address) (retire h d p)).part (hint_row w h slot (needed.Hint k address) (retire h d p)).sent
 hint_kind w h pc x (Some n) d p k address o = hint_slot w h pc x n d p k address o
 hint_kind w h pc x None d p k address o = quiet_view w (kind.Hint x pc None) p (retire h d p) (λ l. refl) (λ l. refl) (λ l v. refl)
 
-hint_view : (w : Config) (h pc : ℕ) (x : HartId) (slot : Option ℕ) (d : Performed) (p : Part) (k : HintKind) (address : ℕ) (need : Need) → need ≡ needed.Hint k address → SlotIs w k address slot p → View w (kind.Hint x pc slot) p (hint_row w h slot need (retire h d p)).part (hint_row w h slot need (retire h d p)).sent
+hint_view : (w : Config) (h pc : ℕ) (x : HartId) (slot : Option ℕ) (d : HartEffect) (p : Part) (k : HintKind) (address : ℕ) (need : Need) → need ≡ needed.Hint k address → SlotIs w k address slot p → View w (kind.Hint x pc slot) p (hint_row w h slot need (retire h d p)).part (hint_row w h slot need (retire h d p)).sent
 hint_view w h pc x slot d p k address need e o = subst (λ n. View w (kind.Hint x pc slot) p (hint_row w h slot n (retire h d p)).part (hint_row w h slot n (retire h d p)).sent) (sym e) (hint_kind w h pc x slot d p k address o)
 
 commit_may : (w : Config) (address mask value h : ℕ) (c : Copy) → in_m h c ≡ true → IsNext (written_in w address mask value (content c)) c
@@ -133,7 +133,7 @@ abbrev pub IsNoTake : Kind → Type 0
 IsNoTake (kind.Take f m) = ⊥
 IsNoTake e = Unit {0}
 
-pub view : (w : Config) (c : ℕ) (e : Kind) (d : Performed) (p : Part) → IsNoTake e → Guard w c e d p → View w e p (row w c e d p).part (row w c e d p).sent
+pub view : (w : Config) (c : ℕ) (e : Kind) (d : HartEffect) (p : Part) → IsNoTake e → Guard w c e d p → View w e p (row w c e d p).part (row w c e d p).sent
 unfolding row Guard
 view w c (kind.Alu h pc) d p t g = quiet_view w (kind.Alu h pc) p (row w c (kind.Alu h pc) d p).part (λ l. refl) (λ l. refl) (λ l v. refl)
 view w c (kind.Fence h pc) d p t g = quiet_view w (kind.Fence h pc) p (row w c (kind.Fence h pc) d p).part (λ l. refl) (λ l. refl) (λ l v. refl)

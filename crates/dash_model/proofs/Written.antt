@@ -7,7 +7,7 @@ use Rattle.dash_base.specs.declared.line.Line.{Line}
 use Rattle.dash_event.specs.declared.access.Access.{Access}
 use Rattle.dash_event.specs.declared.step_record.StepRecord.TheVariants as step
 use Rattle.hart_core.specs.Access.{IsInMemory}
-use Rattle.flat_model.specs.Step.{is_of_memory, written_over, word_after}
+use Rattle.dash_event.specs.Effects.{is_of_memory, written_over, word_after}
 use Rattle.dash_model.specs.Config.{Config, line_at, place_of}
 use Rattle.dash_model.specs.Words.{word_in, written_in}
 

@@ -6,7 +6,7 @@ use Rattle.dash_msg.specs.declared.msg.Msg.TheVariants.{Read, ReadEx, WriteBack}
 use Rattle.dash_model.specs.Maps.{without, with_member}
 use Rattle.dash_model.specs.Net.{to}
 use Rattle.dash_model.specs.Cell.{Copy, NoCopy, Held, Asked, Came, Refused, Slot, NoSlot, Reads, Owns, Acks, NoAcks, Counting, Expects, Cell, Home}
-use Rattle.dash_model.specs.Did.{Did, still}
+use Rattle.dash_model.specs.LineEffect.{LineEffect, still}
 
 -- a slot asks to read or to own, or asks again, or its line is installed; a hart commits a content, evicts its line as the owner or as another holder, or gets the line from its cluster, to read or to own
 pub data Act : Type 0 where
@@ -16,13 +16,13 @@ pub data Act : Type 0 where
   Evict Drop BusRead BusOwn : (hart : ℕ) → Act
 
 -- a slot that was refused asks the home again
-abbrev pub again_row : LineId → ℕ → Slot → Cell → Home → Did
+abbrev pub again_row : LineId → ℕ → Slot → Cell → Home → LineEffect
 again_row l h (Reads n t Refused) a b = record { cell = record a { slot = Reads n t Asked }; home = b; sent = to h (Read l) ∷ [] }
 again_row l h (Owns n t Refused) a b = record { cell = record a { slot = Owns n t Asked }; home = b; sent = to h (ReadEx l) ∷ [] }
 again_row l h s a b = still a b
 
 -- the line that came to a slot: its hart is the only holder, and of a line to own the owner
-abbrev pub install_row : Slot → Cell → Home → Did
+abbrev pub install_row : Slot → Cell → Home → LineEffect
 install_row (Reads n t (Came d)) a b = record { cell = record a { slot = NoSlot; copy = Held (t ∷ []) None d }; home = b; sent = [] }
 install_row (Owns n t (Came d)) a b = record { cell = record a { slot = NoSlot; copy = Held (t ∷ []) (Some t) d }; home = b; sent = [] }
 install_row s a b = still a b
@@ -39,7 +39,7 @@ owe t (Counting g o) = Counting g (with_member t o)
 owe t (Expects n g o) = Expects n g (with_member t o)
 
 -- the owner evicts: no copy is left, and the home gets the content
-abbrev pub evict_row : LineId → ℕ → Copy → Cell → Home → Did
+abbrev pub evict_row : LineId → ℕ → Copy → Cell → Home → LineEffect
 evict_row l h (Held hs (Some o) d) a b = record { cell = record a { copy = NoCopy }; home = b; sent = to h (WriteBack l d) ∷ [] }
 evict_row l h c a b = still a b
 
@@ -65,7 +65,7 @@ bus_own t (Held hs (Some o) d) = Held (t ∷ []) (Some t) d
 bus_own t a = a
 
 -- each act, at a cluster with this cell, where h is the line's home
-abbrev pub act_row : LineId → ℕ → Act → Cell → Home → Did
+abbrev pub act_row : LineId → ℕ → Act → Cell → Home → LineEffect
 act_row l h (AskRead n t) a b = record { cell = record a { slot = Reads n t Asked }; home = b; sent = to h (Read l) ∷ [] }
 act_row l h (AskOwn n t) a b = record { cell = record a { slot = Owns n t Asked; acks = Counting 0 [] }; home = b; sent = to h (ReadEx l) ∷ [] }
 act_row l h Again a b = again_row l h a.slot a b

@@ -6,13 +6,13 @@ use Rattle.dash_base.specs.declared.id.LineId.{LineId}
 use Rattle.dash_base.specs.declared.id.WordAddr.{WordAddr}
 use Rattle.dash_base.specs.declared.topology.Topology.{Topology}
 use Rattle.elf_load.specs.Image.{ImageView}
-use Rattle.dash_event.specs.Places.{line_of}
+use Rattle.dash_base.specs.Places.{line_of}
 use Rattle.dash_event.specs.declared.access.Access.{Access}
 use Rattle.dash_event.specs.declared.access.Seen.TheVariants.{Line, Own, Lock}
 use Rattle.dash_event.specs.declared.event.Event.{Event}
 use Rattle.dash_event.specs.declared.event.Kind.{Kind}
 use Rattle.dash_event.specs.declared.event.Kind.TheVariants.{Load, Store, Commit, Rmw, Grant, Free}
-use Rattle.flat_model.specs.Offered.{bytes_under}
+use Rattle.dash_event.specs.Offered.{bytes_under}
 use Rattle.dash_model.specs.Log.{IsEventAt, IsShown, IsCommitEvent, commits_before}
 use Rattle.dash_model.specs.LineContent.{word_at}
 

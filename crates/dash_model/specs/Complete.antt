@@ -31,10 +31,10 @@ pub record IsSpent (w : Config) (h : ℕ) (m : Machine) : Type 0 where
   pub all : (hart_at w h m).core.retired ≡ w.top.budget
 
 -- hart h has ended, has spent its budget, or waits
-pub data IsStanding (w : Config) (h : ℕ) (m : Machine) : Type 0 where
-  Ended : is_running (hart_at w h m).core.end ≡ false → IsStanding w h m
-  Spent : IsSpent w h m → IsStanding w h m
-  Waits : IsWaiting w h m → IsStanding w h m
+pub data IsStopped (w : Config) (h : ℕ) (m : Machine) : Type 0 where
+  Ended : is_running (hart_at w h m).core.end ≡ false → IsStopped w h m
+  Spent : IsSpent w h m → IsStopped w h m
+  Waits : IsWaiting w h m → IsStopped w h m
 
 -- lanes, buffers, slots and acknowledgements are empty, and each hart stands
 pub record IsComplete (w : Config) (m : Machine) : Type 0 where
@@ -42,7 +42,7 @@ pub record IsComplete (w : Config) (m : Machine) : Type 0 where
   pub buffers : (h : ℕ) → h < all_harts w → (hart_at w h m).buffer ≡ []
   pub slots : (c l : ℕ) → c < w.top.clusters → ((m.parts c).cells l).slot ≡ NoSlot
   pub acks : (c l : ℕ) → c < w.top.clusters → ((m.parts c).cells l).acks ≡ NoAcks
-  pub harts : (h : ℕ) → h < all_harts w → IsStanding w h m
+  pub harts : (h : ℕ) → h < all_harts w → IsStopped w h m
 
 -- a complete run of this log
 pub record IsCompleteRun (w : Config) (log : List Event) : Type 0 where

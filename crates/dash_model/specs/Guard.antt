@@ -9,10 +9,10 @@ use Rattle.dash_event.specs.declared.access.Seen.TheVariants as seen
 use Rattle.dash_event.specs.declared.event.Kind.{Kind}
 use Rattle.dash_event.specs.declared.event.Kind.TheVariants as kind
 use Rattle.hart_core.specs.Meaning.{Does}
-use Rattle.hart_core.specs.declared.need.Need.TheVariants as needed
+use Rattle.dash_base.specs.declared.need.Need.TheVariants as needed
 use Rattle.dash_model.specs.Config.{Config, lock_at}
 use Rattle.dash_model.specs.Part.{Waiter, Part}
-use Rattle.dash_model.specs.HartRows.{Performed}
+use Rattle.dash_model.specs.HartRows.{HartEffect}
 use Rattle.dash_model.specs.Ranges.{has_hart, own_hart, own_lock}
 use Rattle.dash_model.specs.HartGuards.{RetiresAt, IsAccess, FenceFits, HintFits, LoadFits, StoreFits, CommitFits, RmwFits, ScFailFits, LockSendFits}
 use Rattle.dash_model.specs.LineGuards.{BusReadFits, BusOwnFits, EvictFits, AskFits, IsRefused, InstallFits}
@@ -30,25 +30,25 @@ pub record GrantFits (w : Config) (c : ℕ) (a : Access) (p : Part) : Type 0 whe
 abbrev pub frees : Config → ℕ → HartId → WordAddr → Bool
 frees w c h word = has_hart w h && own_lock w c word
 
--- Free
+-- Free: the Unlock is this home's to serve
 pub record FreeFits (w : Config) (c : ℕ) (a : Access) (p : Part) : Type 0 where
   pub serves : frees w c a.hart a.word ≡ true
   pub access : IsAccess a.hart.0 a.number (needed.Unlock a.word) (p.locks (lock_at w a.word.0)).value true (seen.Lock (p.locks (lock_at w a.word.0)).count) a
 
 -- where its lock instruction was sent, the hart does it with this answer
-abbrev pub DoesIf : Bool → Config → ℕ → ℕ → Performed → Part → Type 0
+abbrev pub DoesIf : Bool → Config → ℕ → ℕ → HartEffect → Part → Type 0
 DoesIf true w h answer d p = Does w.image w.top (p.harts h).core d.need answer d.next
 DoesIf false w h answer d p = Unit {0}
 
 -- Take: Free is not what takes the message
-abbrev pub TakeFits : Config → ℕ → Msg → Performed → Part → Type 0
+abbrev pub TakeFits : Config → ℕ → Msg → HartEffect → Part → Type 0
 TakeFits w c (Unlock h n word) d p = frees w c h word ≡ false
 TakeFits w c (LockGrant h) d p = DoesIf (own_hart w c h && (p.harts h.0).asked) w h.0 0 d p
 TakeFits w c (UnlockAck h old) d p = DoesIf (own_hart w c h && (p.harts h.0).asked) w h.0 old d p
 TakeFits w c m d p = Unit {0}
 
 -- what may happen at cluster c
-unfoldable pub Guard : Config → ℕ → Kind → Performed → Part → Type 0
+unfoldable pub Guard : Config → ℕ → Kind → HartEffect → Part → Type 0
 Guard w c (kind.Alu h pc) d p = RetiresAt w c h.0 pc needed.Alu d p
 Guard w c (kind.Fence h pc) d p = FenceFits w c h.0 pc d p
 Guard w c (kind.Hint h pc slot) d p = HintFits w c h.0 pc slot d p

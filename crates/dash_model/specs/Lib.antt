@@ -4,13 +4,13 @@ pub mod Coherent
 pub mod Owed
 pub mod Release
 pub mod Replay
-pub mod Followed
+pub mod Admissible
 pub mod Maps
 pub mod Config
 pub mod Net
 pub mod Cell
 pub mod Part
-pub mod Did
+pub mod LineEffect
 pub mod Requests
 pub mod Replies
 pub mod Acts

@@ -8,7 +8,7 @@ use Rattle.dash_event.specs.declared.event.Event.{Event}
 use Rattle.dash_event.specs.declared.event.Kind.{Kind}
 use Rattle.dash_event.specs.declared.event.Kind.TheVariants.{Store, Commit, Rmw}
 use Rattle.dash_event.specs.declared.step_record.StepRecord.TheVariants as step
-use Rattle.flat_model.specs.Step.{word_after}
+use Rattle.dash_event.specs.Effects.{word_after}
 use Rattle.dash_model.specs.Log.{commits_of}
 
 -- the access, in a list of one, where a hart's store of this number retired

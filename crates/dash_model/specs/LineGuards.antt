@@ -2,7 +2,7 @@
 use Rattle.std.specs.Prelude.{◌≡◌, ◌≢◌, ◌⊎◌, ℕ, ◌%◌, Bool, true, false}
 use Rattle.dash_model.specs.Config.{Config, cluster_of}
 use Rattle.dash_model.specs.Cell.{Refused, Came, Slot, Reads, Owns, NoAcks}
-use Rattle.dash_model.specs.Did.{has_copy, has_owner, is_owner}
+use Rattle.dash_model.specs.LineEffect.{has_copy, has_owner, is_owner}
 use Rattle.dash_model.specs.Part.{Part}
 use Rattle.dash_model.specs.Words.{held_by, Room}
 use Rattle.dash_model.specs.Wants.{NeedsCopy, NeedsOwn, Wants, MayAsk}
@@ -42,13 +42,13 @@ IsRefused n (Reads m h Refused) = m ≡ n
 IsRefused n (Owns m h Refused) = m ≡ n
 IsRefused n slot = ⊥
 
--- Install: the line came to slot n of hart h, which has room for it
+-- the line came to slot n of hart h
 abbrev pub HasCome : ℕ → ℕ → Slot → Type 0
 HasCome n h (Reads m t (Came d)) = (m ≡ n) × (t ≡ h)
 HasCome n h (Owns m t (Came d)) = (m ≡ n) × (t ≡ h)
 HasCome n h slot = ⊥
 
--- the guard of Install
+-- Install: the line came to slot n of hart h, which has room for it
 pub record InstallFits (w : Config) (c n h l : ℕ) (p : Part) : Type 0 where
   pub mine : cluster_of w h ≡ c
   pub came : HasCome n h (p.cells l).slot

@@ -3,12 +3,12 @@ use Rattle.std.specs.Prelude.{ℕ, ◌==◌, ◌&&◌, cond}
 use Rattle.dash_msg.specs.declared.msg.Msg.{Msg}
 use Rattle.dash_msg.specs.declared.msg.Msg.TheVariants.{Read, ReadEx, FwdRead, FwdReadEx, Inval, WriteBack, SharingBack, Transfer, Data, DataEx, Ack, TransferAck, Nak}
 use Rattle.dash_model.specs.Cell.{Cell, Home}
-use Rattle.dash_model.specs.Did.{Did, still}
+use Rattle.dash_model.specs.LineEffect.{LineEffect, still}
 use Rattle.dash_model.specs.Requests.{read_row, own_row, give_read, give_own, inval_row, is_dirty_of, write_back_row, sharing_back_row, transfer_row}
 use Rattle.dash_model.specs.Replies.{data_row, data_ex_row, ack_row, nak_row}
 
 -- message m from cluster f taken at cluster c, where h is the line's home and the slots below k are front and store slots
-abbrev pub take_row : ℕ → ℕ → ℕ → ℕ → Msg → Cell → Home → Did
+abbrev pub take_row : ℕ → ℕ → ℕ → ℕ → Msg → Cell → Home → LineEffect
 take_row k h c f (Read l) a b = cond (c == h) (read_row l f b.entry a b) (still a b)
 take_row k h c f (ReadEx l) a b = cond (c == h) (own_row l f b.entry a b) (still a b)
 take_row k h c f (FwdRead l r) a b = give_read l h r.0 a.copy a.acks a b

@@ -24,13 +24,13 @@ sent_in w c p [] = []
 sent_in w c p (g ∷ gs) = sends w c g p ++ sent_in w c (part_after w c g p) gs
 
 -- all that it takes, in order
-abbrev pub takes : ℕ → Step → List Packet
-takes c g = taken c g.stamp g.event.kind
+abbrev pub packets_taken : ℕ → Step → List Packet
+packets_taken c g = taken c g.stamp g.event.kind
 
 -- all that a cluster takes
 unfoldable pub received_in : ℕ → List Step → List Packet
 received_in c [] = []
-received_in c (g ∷ gs) = takes c g ++ received_in c gs
+received_in c (g ∷ gs) = packets_taken c g ++ received_in c gs
 
 -- lanes are met: what was received of each begins what was sent, stamps included, and `left` is the rest
 pub record LanesMeet (w : Config) (runs : ℕ → List Step) : Type 0 where
@@ -38,9 +38,9 @@ pub record LanesMeet (w : Config) (runs : ℕ → List Step) : Type 0 where
   pub met : (a b : ℕ) (k : Class) → lane a b k (sent_in w a (opening_part w) (runs a)) ≡ lane a b k (received_in b (runs b)) ++ left a b k
 
 -- the stamps stay below the greatest one: so each is above that of the event before, and of the message that is taken
-abbrev pub Rose : List Step → Type 0
-Rose [] = Unit {0}
-Rose (g ∷ gs) = (g.event.stamp < most) × Rose gs
+abbrev pub StampsFit : List Step → Type 0
+StampsFit [] = Unit {0}
+StampsFit (g ∷ gs) = (g.event.stamp < most) × StampsFit gs
 
 -- the steps of cluster c, and the events
 unfoldable pub of_cluster : ℕ → List Step → List Step

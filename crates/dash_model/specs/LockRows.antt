@@ -6,15 +6,15 @@ use Rattle.dash_model.specs.Maps.{upd, total, raised, most}
 use Rattle.dash_model.specs.Config.{Config, hart_id, cluster_of, lock_home}
 use Rattle.dash_model.specs.Net.{to}
 use Rattle.dash_model.specs.Part.{Waiter, Part}
-use Rattle.dash_model.specs.HartRows.{Done, quiet, Performed, change}
+use Rattle.dash_model.specs.HartRows.{PartEffect, quiet, HartEffect, change}
 
 -- Grant: the first waiter leaves, and the word is what it asked for
-abbrev pub grant_row : Config → ℕ → List Waiter → Part → Done
+abbrev pub grant_row : Config → ℕ → List Waiter → Part → PartEffect
 grant_row w i [] p = quiet p
 grant_row w i (x ∷ xs) p = record { part = record p { locks = upd p.locks i (record { value = x.value; count = raised most (p.locks i).count; queue = xs }) }; sent = to (cluster_of w x.hart) (LockGrant (hart_id x.hart)) ∷ [] }
 
 -- Free: the word is 0, and the hart is told what it was
-abbrev pub free_row : Config → ℕ → HartId → Part → Done
+abbrev pub free_row : Config → ℕ → HartId → Part → PartEffect
 free_row w i h p = record { part = record p { locks = upd p.locks i (record { value = 0; count = raised most (p.locks i).count; queue = (p.locks i).queue }) }; sent = to (cluster_of w h.0) (UnlockAck h (p.locks i).value) ∷ [] }
 
 -- LockAsk: the hart waits behind the others
@@ -22,7 +22,7 @@ abbrev pub queued : ℕ → Waiter → Part → Part
 queued i x p = record p { locks = upd p.locks i (record (p.locks i) { queue = (p.locks i).queue ++ x ∷ [] }) }
 
 -- LockGrant, UnlockAck: a hart whose lock instruction was sent did it
-abbrev pub answered : ℕ → Bool → Performed → Part → Part
+abbrev pub answered : ℕ → Bool → HartEffect → Part → Part
 answered h true d p = change h (record (p.harts h) { core = d.next; asked = false }) p
 answered h false d p = p
 

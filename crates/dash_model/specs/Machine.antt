@@ -9,7 +9,7 @@ use Rattle.dash_model.specs.Maps.{upd, raised, most}
 use Rattle.dash_model.specs.Config.{Config}
 use Rattle.dash_model.specs.Net.{Packet, packet, parcel, head, tail, send}
 use Rattle.dash_model.specs.Part.{Part, opening_part}
-use Rattle.dash_model.specs.HartRows.{Performed}
+use Rattle.dash_model.specs.HartRows.{HartEffect}
 use Rattle.dash_model.specs.Row.{row}
 use Rattle.dash_model.specs.Guard.{Guard}
 
@@ -23,7 +23,7 @@ pub record Machine : Type 0 where
 pub record Step : Type 0 where
   pub event : Event
   pub stamp : ℕ
-  pub done : Performed
+  pub done : HartEffect
 
 -- the event of a step
 abbrev pub event_of : Step → Event

@@ -18,7 +18,7 @@ use Rattle.dash_model.specs.Net.{Packet, packet, lane, head, tail, first, rest, 
 use Rattle.dash_model.specs.Part.{Part, opening_part}
 use Rattle.dash_model.specs.Ranges.{applies}
 use Rattle.dash_model.specs.Machine.{Machine, Step, stamp_of, Steps, event_of, part_after, taken, less, sends, puts, CanHappen, after, IsRun, Reaches}
-use Rattle.dash_model.specs.LocalRun.{IsLocalRun, part_at, sent_in, takes, received_in, LanesMeet, Rose, IsMergeOf, IsMergedRun}
+use Rattle.dash_model.specs.LocalRun.{IsLocalRun, part_at, sent_in, packets_taken, received_in, LanesMeet, StampsFit, IsMergeOf, IsMergedRun}
 use Rattle.dash_model.specs.OnLine.{is_of}
 
 -- two steps of one event make one machine of a machine, and two runs of one log reach one state
@@ -81,7 +81,7 @@ pub record Grows (w : Config) (c : ℕ) (p : Part) (gs : List Step) (g : Step) :
   pub run : IsLocalRun w c p (gs ++ g ∷ [])
   pub part : part_at w c p (gs ++ g ∷ []) ≡ part_after w c g (part_at w c p gs)
   pub sent : sent_in w c p (gs ++ g ∷ []) ≡ sent_in w c p gs ++ sends w c g (part_at w c p gs)
-  pub received : received_in c (gs ++ g ∷ []) ≡ received_in c gs ++ takes c g
+  pub received : received_in c (gs ++ g ∷ []) ≡ received_in c gs ++ packets_taken c g
 
 -- each step that the part allows does so
 abbrev pub LocalRunsGrow : Type 0
@@ -90,7 +90,7 @@ LocalRunsGrow = (w : Config) (c : ℕ) (p : Part) (gs : List Step) (g : Step) �
 -- the merge of local runs whose lanes are met, and whose stamps stay below the greatest, is a run
 abbrev pub MergesAreRuns : Type 0
 MergesAreRuns = (w : Config) (runs : ℕ → List Step) (es : List Event)
-    → ((c : ℕ) → IsLocalRun w c (opening_part w) (runs c)) → (l : LanesMeet w runs) → ((c : ℕ) → Rose (runs c))
+    → ((c : ℕ) → IsLocalRun w c (opening_part w) (runs c)) → (l : LanesMeet w runs) → ((c : ℕ) → StampsFit (runs c))
     → IsMergeOf w.top.clusters (λ c. map event_of (runs c)) es → IsMergedRun w runs l.left es
 
 -- an event happens in a state that the events before it lead to

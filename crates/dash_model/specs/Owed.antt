@@ -7,7 +7,7 @@ use Rattle.dash_base.specs.declared.id.LineId.{LineId}
 use Rattle.dash_base.specs.declared.topology.Topology.{Topology}
 use Rattle.dash_msg.specs.declared.msg.Msg.{Msg}
 use Rattle.dash_msg.specs.declared.msg.Msg.TheVariants.{DataEx, Ack, TransferAck}
-use Rattle.dash_event.specs.Places.{cluster_of}
+use Rattle.dash_base.specs.Places.{cluster_of}
 use Rattle.dash_event.specs.declared.event.Event.{Event}
 use Rattle.dash_event.specs.declared.event.Kind.{Kind}
 use Rattle.dash_event.specs.declared.event.Kind.TheVariants.{Take}

@@ -12,7 +12,7 @@ pub record Processor : Type 0 where
   pub reserved : Option ℕ
   pub buffer : List Stored
   pub asked : Bool
-  pub near : ℕ → Option ℕ
+  pub l1 : ℕ → Option ℕ
 
 -- who waits for a lock word: the hart, the number of its instruction, and what the word is to hold
 pub record Waiter : Type 0 where
@@ -37,7 +37,7 @@ pub record Part : Type 0 where
 -- how a run begins: harts at the entry, memory the image, and all else empty
 abbrev pub opening_part : Config → Part
 opening_part w = record {
-  harts = λ h. record { core = opening_hart w.image w.top h; reserved = None; buffer = []; asked = false; near = λ i. None };
+  harts = λ h. record { core = opening_hart w.image w.top h; reserved = None; buffer = []; asked = false; l1 = λ i. None };
   cells = λ l. record { copy = NoCopy; slot = NoSlot; acks = NoAcks };
   homes = λ l. record { mem = opening_line w l; entry = Uncached };
   locks = λ i. record { value = 0; count = 0; queue = [] };

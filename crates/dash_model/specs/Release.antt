@@ -8,8 +8,8 @@ use Rattle.dash_base.specs.declared.topology.Topology.{Topology}
 use Rattle.dash_msg.specs.declared.msg.Msg.TheVariants.{Unlock}
 use Rattle.elf_load.specs.Image.{ImageView}
 use Rattle.hart_core.specs.Meaning.{IsFound, fence_waits}
-use Rattle.hart_core.specs.declared.need.Found.TheVariants.{This}
-use Rattle.dash_event.specs.Places.{line_of}
+use Rattle.hart_core.specs.declared.found.Found.TheVariants.{This}
+use Rattle.dash_base.specs.Places.{line_of}
 use Rattle.dash_event.specs.declared.access.Access.{Access}
 use Rattle.dash_event.specs.declared.event.Event.{Event}
 use Rattle.dash_event.specs.declared.event.Kind.{Kind}

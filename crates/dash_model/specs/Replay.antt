@@ -3,12 +3,13 @@ use Rattle.std.specs.Prelude.{◌≡◌, ◌≢◌, ◌⊎◌, ℕ, ◌+◌, ◌
 use Rattle.dash_base.specs.declared.id.HartId.{HartId}
 use Rattle.dash_base.specs.declared.topology.Topology.{Topology}
 use Rattle.elf_load.specs.Image.{ImageView}
-use Rattle.rv32_decode.specs.declared.prefetch.HintKind.{HintKind}
+use Rattle.dash_base.specs.declared.need.HintKind.{HintKind}
 use Rattle.hart_core.specs.HartState.{HartState}
 use Rattle.hart_core.specs.Meaning.{Does}
-use Rattle.hart_core.specs.Opening.{hart_count, opening_hart}
-use Rattle.hart_core.specs.declared.need.Need.{Need}
-use Rattle.hart_core.specs.declared.need.Need.TheVariants as needed
+use Rattle.hart_core.specs.Opening.{opening_hart}
+use Rattle.dash_base.specs.Places.{hart_count}
+use Rattle.dash_base.specs.declared.need.Need.{Need}
+use Rattle.dash_base.specs.declared.need.Need.TheVariants as needed
 use Rattle.dash_event.specs.Records.{unseen}
 use Rattle.dash_event.specs.declared.access.Access.{Access}
 use Rattle.dash_event.specs.declared.access.Op.TheVariants as op
@@ -16,8 +17,8 @@ use Rattle.dash_event.specs.declared.access.Seen.TheVariants.{Line, Own, Nothing
 use Rattle.dash_event.specs.declared.event.Event.{Event}
 use Rattle.dash_event.specs.declared.event.Kind.{Kind}
 use Rattle.dash_event.specs.declared.event.Kind.TheVariants as kind
-use Rattle.flat_model.specs.Offered.{offered}
-use Rattle.flat_model.specs.Step.{reply}
+use Rattle.dash_event.specs.Offered.{offered}
+use Rattle.dash_event.specs.Effects.{reply}
 use Rattle.dash_model.specs.Log.{IsEventAt}
 
 -- the harts of a machine, by their numbers

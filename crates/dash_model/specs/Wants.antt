@@ -1,18 +1,18 @@
 -- What the harts of a cluster need and want of a line, and which slot may ask for it.
 use Rattle.std.specs.Prelude.{◌≡◌, ◌⊎◌, ℕ, ◌<◌, ◌≤◌, Bool, true, false, None, Some, List, [], ◌∷◌}
 use Rattle.dash_base.specs.declared.ops.AmoOp.TheVariants.{Sc}
-use Rattle.rv32_decode.specs.declared.prefetch.HintKind.{HintKind}
-use Rattle.rv32_decode.specs.declared.prefetch.HintKind.TheVariants.{Fetch, Shared, Exclusive}
+use Rattle.dash_base.specs.declared.need.HintKind.{HintKind}
+use Rattle.dash_base.specs.declared.need.HintKind.TheVariants.{Fetch, Shared, Exclusive}
 use Rattle.write_buffer.specs.Look.{newest_of, look_by}
 use Rattle.write_buffer.specs.declared.entry.Entry.{Entry as Stored}
 use Rattle.write_buffer.specs.declared.entry.Look.TheVariants.{None as NoStore}
 use Rattle.hart_core.specs.Access.{in_memory}
 use Rattle.hart_core.specs.Meaning.{Needs}
-use Rattle.hart_core.specs.declared.need.Need.{Need}
-use Rattle.hart_core.specs.declared.need.Need.TheVariants.{Load, Rmw}
+use Rattle.dash_base.specs.declared.need.Need.{Need}
+use Rattle.dash_base.specs.declared.need.Need.TheVariants.{Load, Rmw}
 use Rattle.dash_model.specs.Config.{Config, line_at, front_slot, store_slot, first_prefetch, end_prefetch}
 use Rattle.dash_model.specs.Cell.{Came, Slot, NoSlot, Reads, Owns}
-use Rattle.dash_model.specs.Did.{has_copy, has_owner}
+use Rattle.dash_model.specs.LineEffect.{has_copy, has_owner}
 use Rattle.dash_model.specs.Part.{Processor, Part}
 use Rattle.dash_model.specs.Words.{held_by, in_m, AcksHaveRoom, IsEmptySlot}
 

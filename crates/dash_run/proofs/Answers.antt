@@ -8,12 +8,12 @@ use Rattle.elf_load.specs.Refusal.{IsFirstRefusal, IsLoadable}
 use Rattle.elf_load.specs.declared.memory_map.MemoryMap.{MemoryMap}
 use Rattle.elf_load.specs.declared.refusal.LoadRefusal.{LoadRefusal}
 use Rattle.elf_load.specs.declared.refusal.LoadRefusal.TheVariants as load_refusal
-use Rattle.dash_run.specs.declared.owed.Owed.{Owed}
-use Rattle.dash_run.specs.declared.owed.Owed.TheVariants.{Usage, Line, Report}
+use Rattle.dash_run.specs.declared.output.Output.{Output}
+use Rattle.dash_run.specs.declared.output.Output.TheVariants.{Usage, Line, Report}
 use Rattle.dash_run.specs.CommandLine.{Request}
-use Rattle.dash_run.specs.Owed.{IsAnswer, IsAnswerOn, IsReport}
+use Rattle.dash_run.specs.Output.{IsAnswer, IsAnswerOn, IsReport}
 
-pub report_on : (bytes : List ℕ) (image : ImageView) (t : Topology) (m : MemoryMap) (owed : Owed)
+pub report_on : (bytes : List ℕ) (image : ImageView) (t : Topology) (m : MemoryMap) (owed : Output)
     → m.base ≡ t.base → m.size ≡ t.memory → IsLoadable bytes m → image ≡ image_of bytes → IsReport image t owed → IsAnswerOn t bytes owed
 report_on bytes image t m Usage base size accepted same report = report
 report_on bytes image t m (Line status text) base size accepted same report = absurd report
@@ -31,7 +31,7 @@ refusal_applies bytes map load_refusal.OutOfMemory other refuses = absurd (other
 refusal_applies bytes map refusal other refuses = refuses
 
 -- what is owed on a topology that was asked for is what is owed
-pub answer_on_asked : (q : Request) (t : Topology) (bytes : List ℕ) (owed : Owed)
+pub answer_on_asked : (q : Request) (t : Topology) (bytes : List ℕ) (owed : Output)
     → IsSimple q.clusters q.harts q.budget t → simple_refusal q.clusters q.harts q.budget ≡ None → IsAnswerOn t bytes owed → IsAnswer q bytes owed
 answer_on_asked q t bytes Usage simple accepted answer = answer
 answer_on_asked q t bytes (Line status text) simple accepted answer = inr (record {

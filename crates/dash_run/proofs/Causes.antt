@@ -5,10 +5,10 @@ use Rattle.dash_base.specs.declared.host.Stream.{Stream}
 use Rattle.dash_base.specs.declared.topology.Topology.{Topology}
 use Rattle.dash_event.specs.declared.event.Event.{Event}
 use Rattle.hart_core.specs.HartState.{HartState}
-use Rattle.flat_model.specs.Held.{harts_of}
-use Rattle.dash_run.specs.CommandLine.{Request, IsFormless}
+use Rattle.flat_model.specs.Represents.{harts_of}
+use Rattle.dash_run.specs.CommandLine.{Request, IsUsageError}
 use Rattle.dash_run.specs.Report.{status_of}
-use Rattle.dash_run.specs.Outcome.{Owes, usage, failed, large, misshapen, refused, reported, Ends, printed_all, print_failed, out_of_memory, Change, IsReported, IsRunStatus, IsFault, NamesMisshapen, NamesRefused, NamesRun, RunsSequentially}
+use Rattle.dash_run.specs.Outcome.{IsOutput, usage, failed, large, bad_topology, refused, reported, Ends, printed_all, print_failed, out_of_memory, Change, IsReported, IsRunStatus, IsFault, NamesBadTopology, NamesRefused, NamesRun, RunsSequentially}
 use Rattle.dash_run.proofs.Runs.{plain_complete}
 
 -- ---- the statuses of a run
@@ -38,63 +38,63 @@ no_run status other run = omega arith
 -- ---- what is owed with a status
 
 pub owes_two : (words : List (List ℕ)) (files : Option Files) (before after status : ℕ) (to : Stream) (text : List ℕ) (log : List Event)
-    → Owes words files before after status to text log → status ≡ 2 → IsFormless words
+    → IsOutput words files before after status to text log → status ≡ 2 → IsUsageError words
 owes_two words files before after status to text log (usage none same) eq = none
 owes_two words files before after status to text log (failed q asks rose) eq = absurd (omega arith)
 owes_two words files before after status to text log (large q size asks is same) eq = absurd (omega arith)
-owes_two words files before after status to text log (misshapen q bytes refusal asks given is same) eq = absurd (omega arith)
+owes_two words files before after status to text log (bad_topology q bytes refusal asks given is same) eq = absurd (omega arith)
 owes_two words files before after status to text log (refused q bytes refusal asks given is same) eq = absurd (omega arith)
 owes_two words files before after status to text log (reported q bytes s t l asks given is same) eq = absurd (other_status s 2 (reported_status q bytes s t l is) eq (λ e. omega arith) (λ e. omega arith) (λ e. omega arith) (λ e. omega arith))
 
 pub owes_three : (words : List (List ℕ)) (files : Option Files) (before after status : ℕ) (to : Stream) (text : List ℕ) (log : List Event)
-    → Owes words files before after status to text log → status ≡ 3 → NamesRefused words files
+    → IsOutput words files before after status to text log → status ≡ 3 → NamesRefused words files
 owes_three words files before after status to text log (usage none same) eq = absurd (omega arith)
 owes_three words files before after status to text log (failed q asks rose) eq = absurd (omega arith)
 owes_three words files before after status to text log (large q size asks is same) eq = absurd (omega arith)
-owes_three words files before after status to text log (misshapen q bytes refusal asks given is same) eq = absurd (omega arith)
+owes_three words files before after status to text log (bad_topology q bytes refusal asks given is same) eq = absurd (omega arith)
 owes_three words files before after status to text log (refused q bytes refusal asks given is same) eq = record { request = q; asked = asks; bytes = bytes; given = given; refusal = refusal; refused = is }
 owes_three words files before after status to text log (reported q bytes s t l asks given is same) eq = absurd (other_status s 3 (reported_status q bytes s t l is) eq (λ e. omega arith) (λ e. omega arith) (λ e. omega arith) (λ e. omega arith))
 
 pub owes_four : (words : List (List ℕ)) (files : Option Files) (before after status : ℕ) (to : Stream) (text : List ℕ) (log : List Event)
-    → Owes words files before after status to text log → status ≡ 4 → NamesMisshapen words files
+    → IsOutput words files before after status to text log → status ≡ 4 → NamesBadTopology words files
 owes_four words files before after status to text log (usage none same) eq = absurd (omega arith)
 owes_four words files before after status to text log (failed q asks rose) eq = absurd (omega arith)
 owes_four words files before after status to text log (large q size asks is same) eq = absurd (omega arith)
-owes_four words files before after status to text log (misshapen q bytes refusal asks given is same) eq = record { request = q; asked = asks; bytes = bytes; given = given; refusal = refusal; refused = is }
+owes_four words files before after status to text log (bad_topology q bytes refusal asks given is same) eq = record { request = q; asked = asks; bytes = bytes; given = given; refusal = refusal; refused = is }
 owes_four words files before after status to text log (refused q bytes refusal asks given is same) eq = absurd (omega arith)
 owes_four words files before after status to text log (reported q bytes s t l asks given is same) eq = absurd (other_status s 4 (reported_status q bytes s t l is) eq (λ e. omega arith) (λ e. omega arith) (λ e. omega arith) (λ e. omega arith))
 
 pub owes_five : (words : List (List ℕ)) (files : Option Files) (loads prints : Change ℕ) (status : ℕ) (to : Stream) (text : List ℕ) (log : List Event)
-    → Owes words files loads.old loads.new status to text log → status ≡ 5 → IsFault words files loads prints
+    → IsOutput words files loads.old loads.new status to text log → status ≡ 5 → IsFault words files loads prints
 owes_five words files loads prints status to text log (usage none same) eq = absurd (omega arith)
 owes_five words files loads prints status to text log (failed q asks rose) eq = inl rose
 owes_five words files loads prints status to text log (large q size asks is same) eq = inr (inr (record { request = q; asked = asks; size = size; large = is }))
-owes_five words files loads prints status to text log (misshapen q bytes refusal asks given is same) eq = absurd (omega arith)
+owes_five words files loads prints status to text log (bad_topology q bytes refusal asks given is same) eq = absurd (omega arith)
 owes_five words files loads prints status to text log (refused q bytes refusal asks given is same) eq = absurd (omega arith)
 owes_five words files loads prints status to text log (reported q bytes s t l asks given is same) eq = absurd (other_status s 5 (reported_status q bytes s t l is) eq (λ e. omega arith) (λ e. omega arith) (λ e. omega arith) (λ e. omega arith))
 
 pub owes_six : (words : List (List ℕ)) (files : Option Files) (before after status : ℕ) (to : Stream) (text : List ℕ) (log : List Event)
-    → Owes words files before after status to text log → status ≡ 6 → ⊥
+    → IsOutput words files before after status to text log → status ≡ 6 → ⊥
 owes_six words files before after status to text log (usage none same) eq = omega arith
 owes_six words files before after status to text log (failed q asks rose) eq = omega arith
 owes_six words files before after status to text log (large q size asks is same) eq = omega arith
-owes_six words files before after status to text log (misshapen q bytes refusal asks given is same) eq = omega arith
+owes_six words files before after status to text log (bad_topology q bytes refusal asks given is same) eq = omega arith
 owes_six words files before after status to text log (refused q bytes refusal asks given is same) eq = omega arith
 owes_six words files before after status to text log (reported q bytes s t l asks given is same) eq = (other_status s 6 (reported_status q bytes s t l is) eq (λ e. omega arith) (λ e. omega arith) (λ e. omega arith) (λ e. omega arith))
 
 pub owes_run : (words : List (List ℕ)) (files : Option Files) (before after status : ℕ) (to : Stream) (text : List ℕ) (log : List Event)
-    → Owes words files before after status to text log → IsRunStatus status → NamesRun words files status log
+    → IsOutput words files before after status to text log → IsRunStatus status → NamesRun words files status log
 owes_run words files before after status to text log (usage none same) run = absurd (no_run _ (inl refl) run)
 owes_run words files before after status to text log (failed q asks rose) run = absurd (no_run _ (inr (inr (inr (inl refl)))) run)
 owes_run words files before after status to text log (large q size asks is same) run = absurd (no_run _ (inr (inr (inr (inl refl)))) run)
-owes_run words files before after status to text log (misshapen q bytes refusal asks given is same) run = absurd (no_run _ (inr (inr (inl refl))) run)
+owes_run words files before after status to text log (bad_topology q bytes refusal asks given is same) run = absurd (no_run _ (inr (inr (inl refl))) run)
 owes_run words files before after status to text log (refused q bytes refusal asks given is same) run = absurd (no_run _ (inr (inl refl)) run)
 owes_run words files before after status to text log (reported q bytes s t l asks given is same) run = record { request = q; asked = asks; bytes = bytes; given = given; text = t; reported = is }
 
 -- ---- the cause of each status
 
 pub usage_cause : (words : List (List ℕ)) (files : Option Files) (loads prints : Change ℕ) (printed : Change (Option Printed)) (status : ℕ) (log : List Event)
-    → Ends words files loads prints printed status log → status ≡ 2 → IsFormless words
+    → Ends words files loads prints printed status log → status ≡ 2 → IsUsageError words
 usage_cause words files loads prints printed status log (printed_all s to text l owes steady follows) eq = owes_two _ _ _ _ _ _ _ _ owes eq
 usage_cause words files loads prints printed status log (print_failed s to text l owes rose follows) eq = absurd (omega arith)
 usage_cause words files loads prints printed status log (out_of_memory q asks steady same) eq = absurd (omega arith)
@@ -106,7 +106,7 @@ refused_cause words files loads prints printed status log (print_failed s to tex
 refused_cause words files loads prints printed status log (out_of_memory q asks steady same) eq = absurd (omega arith)
 
 pub misshapen_cause : (words : List (List ℕ)) (files : Option Files) (loads prints : Change ℕ) (printed : Change (Option Printed)) (status : ℕ) (log : List Event)
-    → Ends words files loads prints printed status log → status ≡ 4 → NamesMisshapen words files
+    → Ends words files loads prints printed status log → status ≡ 4 → NamesBadTopology words files
 misshapen_cause words files loads prints printed status log (printed_all s to text l owes steady follows) eq = owes_four _ _ _ _ _ _ _ _ owes eq
 misshapen_cause words files loads prints printed status log (print_failed s to text l owes rose follows) eq = absurd (omega arith)
 misshapen_cause words files loads prints printed status log (out_of_memory q asks steady same) eq = absurd (omega arith)

@@ -8,8 +8,8 @@ use Rattle.dash_event.specs.declared.event.Event.{Event}
 use Rattle.elf_load.specs.declared.refusal.LoadRefusal.{LoadRefusal}
 use Rattle.elf_load.specs.Refusal.{IsFirstRefusal}
 use Rattle.elf_load.specs.declared.memory_map.MemoryMap.{MemoryMap}
-use Rattle.dash_run.specs.CommandLine.{Request, Asks, IsFormless}
-use Rattle.dash_run.specs.Outcome.{Owes, usage, failed, large, misshapen, refused, reported, Ends, printed_all, print_failed, out_of_memory, Change, IsGiven, IsTooLarge, IsRefusedTopology, IsRefused, IsReported, IsAccepted, IsRunStatus, IsSteady, IsClean, image_limit}
+use Rattle.dash_run.specs.CommandLine.{Request, Asks, IsUsageError}
+use Rattle.dash_run.specs.Outcome.{IsOutput, usage, failed, large, bad_topology, refused, reported, Ends, printed_all, print_failed, out_of_memory, Change, IsGiven, IsTooLarge, IsRefusedTopology, IsRefused, IsReported, IsAccepted, IsRunStatus, IsSteady, IsClean, image_limit}
 use Rattle.dash_run.proofs.Maps.{one_map}
 use Rattle.dash_run.proofs.Requests.{one_request}
 use Rattle.dash_run.proofs.Causes.{reported_status}
@@ -70,16 +70,16 @@ moved P q r bytes other same_request same_file holds =
 -- ---- no form
 
 owes_no_form : (words : List (List ℕ)) (files : Option Files) (before after status : ℕ) (to : Stream) (text : List ℕ) (log : List Event)
-    → Owes words files before after status to text log → IsFormless words → status ≡ 2
+    → IsOutput words files before after status to text log → IsUsageError words → status ≡ 2
 owes_no_form words files before after status to text log (usage none same) formless = refl
 owes_no_form words files before after status to text log (failed q asks rose) formless = absurd (formless q asks)
 owes_no_form words files before after status to text log (large q size asks is same) formless = absurd (formless q asks)
-owes_no_form words files before after status to text log (misshapen q bytes refusal asks given is same) formless = absurd (formless q asks)
+owes_no_form words files before after status to text log (bad_topology q bytes refusal asks given is same) formless = absurd (formless q asks)
 owes_no_form words files before after status to text log (refused q bytes refusal asks given is same) formless = absurd (formless q asks)
 owes_no_form words files before after status to text log (reported q bytes s t l asks given is same) formless = absurd (formless q asks)
 
 pub no_form_status : (words : List (List ℕ)) (files : Option Files) (loads prints : Change ℕ) (printed : Change (Option Printed)) (status : ℕ) (log : List Event)
-    → Ends words files loads prints printed status log → IsFormless words → (status ≡ 2) ⊎ ((status ≡ 5) × Rose prints.old prints.new)
+    → Ends words files loads prints printed status log → IsUsageError words → (status ≡ 2) ⊎ ((status ≡ 5) × Rose prints.old prints.new)
 no_form_status words files loads prints printed status log (printed_all s to text l owes steady follows) formless = inl (owes_no_form _ _ _ _ _ _ _ _ owes formless)
 no_form_status words files loads prints printed status log (print_failed s to text l owes rose follows) formless = inr (refl, rose)
 no_form_status words files loads prints printed status log (out_of_memory q asks steady same) formless = absurd (formless q asks)
@@ -87,11 +87,11 @@ no_form_status words files loads prints printed status log (out_of_memory q asks
 -- ---- faults
 
 owes_fault : (words : List (List ℕ)) (files : Option Files) (before after status : ℕ) (to : Stream) (text : List ℕ) (log : List Event)
-    → Owes words files before after status to text log → before < after → status ≡ 5
+    → IsOutput words files before after status to text log → before < after → status ≡ 5
 owes_fault words files before after status to text log (usage none same) up = absurd (omega arith)
 owes_fault words files before after status to text log (failed q asks rose) up = refl
 owes_fault words files before after status to text log (large q size asks is same) up = absurd (omega arith)
-owes_fault words files before after status to text log (misshapen q bytes refusal asks given is same) up = absurd (omega arith)
+owes_fault words files before after status to text log (bad_topology q bytes refusal asks given is same) up = absurd (omega arith)
 owes_fault words files before after status to text log (refused q bytes refusal asks given is same) up = absurd (omega arith)
 owes_fault words files before after status to text log (reported q bytes s t l asks given is same) up = absurd (omega arith)
 
@@ -110,38 +110,38 @@ print_fault_status words files loads prints printed status log (out_of_memory q 
 -- ---- files
 
 owes_accepted : (words : List (List ℕ)) (files : Option Files) (loads prints : Change ℕ) (status : ℕ) (to : Stream) (text : List ℕ) (log : List Event) (r : Request) (file : List ℕ)
-    → Owes words files loads.old loads.new status to text log → IsClean words files loads prints r file → length file ≤ image_limit → IsAccepted r file → IsRunStatus status
+    → IsOutput words files loads.old loads.new status to text log → IsClean words files loads prints r file → length file ≤ image_limit → IsAccepted r file → IsRunStatus status
 owes_accepted words files loads prints status to text log r file (usage none same) clean small accepted = absurd (none r clean.asked)
 owes_accepted words files loads prints status to text log r file (failed q asks rose) clean small accepted = absurd (not_steady loads clean.loads_steady rose)
 owes_accepted words files loads prints status to text log r file (large q size asks is same) clean small accepted = absurd (let size_is = same_size words files loads prints r q file size clean asks is in let above = is.large in omega arith)
-owes_accepted words files loads prints status to text log r file (misshapen q bytes refusal asks given is same) clean small accepted = absurd (accepted.topology refusal (moved (λ x b. IsRefusedTopology x refusal) r q file bytes (one_request words q r asks clean.asked) (same_bytes words files loads prints r q file bytes clean asks given) is))
+owes_accepted words files loads prints status to text log r file (bad_topology q bytes refusal asks given is same) clean small accepted = absurd (accepted.topology refusal (moved (λ x b. IsRefusedTopology x refusal) r q file bytes (one_request words q r asks clean.asked) (same_bytes words files loads prints r q file bytes clean asks given) is))
 owes_accepted words files loads prints status to text log r file (refused q bytes refusal asks given is same) clean small accepted = absurd (accepted.image refusal (moved (λ x b. IsRefused x b refusal) r q file bytes (one_request words q r asks clean.asked) (same_bytes words files loads prints r q file bytes clean asks given) is))
 owes_accepted words files loads prints status to text log r file (reported q bytes s t l asks given is same) clean small accepted = reported_status q bytes s t l is
 
 owes_no_topology : (words : List (List ℕ)) (files : Option Files) (loads prints : Change ℕ) (status : ℕ) (to : Stream) (text : List ℕ) (log : List Event) (r : Request) (file : List ℕ)
-    → Owes words files loads.old loads.new status to text log → IsClean words files loads prints r file → length file ≤ image_limit → (why : TopoRefusal) → IsRefusedTopology r why → status ≡ 4
+    → IsOutput words files loads.old loads.new status to text log → IsClean words files loads prints r file → length file ≤ image_limit → (why : TopoRefusal) → IsRefusedTopology r why → status ≡ 4
 owes_no_topology words files loads prints status to text log r file (usage none same) clean small why first = absurd (none r clean.asked)
 owes_no_topology words files loads prints status to text log r file (failed q asks rose) clean small why first = absurd (not_steady loads clean.loads_steady rose)
 owes_no_topology words files loads prints status to text log r file (large q size asks is same) clean small why first = absurd (let size_is = same_size words files loads prints r q file size clean asks is in let above = is.large in omega arith)
-owes_no_topology words files loads prints status to text log r file (misshapen q bytes refusal asks given is same) clean small why first = refl
+owes_no_topology words files loads prints status to text log r file (bad_topology q bytes refusal asks given is same) clean small why first = refl
 owes_no_topology words files loads prints status to text log r file (refused q bytes refusal asks given is same) clean small why first = absurd (none_is_none (simple_refusal r.clusters r.harts r.budget) why (moved (λ x b. simple_refusal x.clusters x.harts x.budget ≡ None) r q file bytes (one_request words q r asks clean.asked) (same_bytes words files loads prints r q file bytes clean asks given) (is.is_machine).accepted) first.refused)
 owes_no_topology words files loads prints status to text log r file (reported q bytes s t l asks given is same) clean small why first = absurd (none_is_none (simple_refusal r.clusters r.harts r.budget) why (moved (λ x b. simple_refusal x.clusters x.harts x.budget ≡ None) r q file bytes (one_request words q r asks clean.asked) (same_bytes words files loads prints r q file bytes clean asks given) (is.is_machine).accepted) first.refused)
 
 owes_no_image : (words : List (List ℕ)) (files : Option Files) (loads prints : Change ℕ) (status : ℕ) (to : Stream) (text : List ℕ) (log : List Event) (r : Request) (file : List ℕ)
-    → Owes words files loads.old loads.new status to text log → IsClean words files loads prints r file → length file ≤ image_limit → (why : LoadRefusal) → IsRefused r file why → status ≡ 3
+    → IsOutput words files loads.old loads.new status to text log → IsClean words files loads prints r file → length file ≤ image_limit → (why : LoadRefusal) → IsRefused r file why → status ≡ 3
 owes_no_image words files loads prints status to text log r file (usage none same) clean small why first = absurd (none r clean.asked)
 owes_no_image words files loads prints status to text log r file (failed q asks rose) clean small why first = absurd (not_steady loads clean.loads_steady rose)
 owes_no_image words files loads prints status to text log r file (large q size asks is same) clean small why first = absurd (let size_is = same_size words files loads prints r q file size clean asks is in let above = is.large in omega arith)
-owes_no_image words files loads prints status to text log r file (misshapen q bytes refusal asks given is same) clean small why first = absurd (none_is_none (simple_refusal r.clusters r.harts r.budget) refusal (first.is_machine).accepted ((moved (λ x b. IsRefusedTopology x refusal) r q file bytes (one_request words q r asks clean.asked) (same_bytes words files loads prints r q file bytes clean asks given) is).refused))
+owes_no_image words files loads prints status to text log r file (bad_topology q bytes refusal asks given is same) clean small why first = absurd (none_is_none (simple_refusal r.clusters r.harts r.budget) refusal (first.is_machine).accepted ((moved (λ x b. IsRefusedTopology x refusal) r q file bytes (one_request words q r asks clean.asked) (same_bytes words files loads prints r q file bytes clean asks given) is).refused))
 owes_no_image words files loads prints status to text log r file (refused q bytes refusal asks given is same) clean small why first = refl
 owes_no_image words files loads prints status to text log r file (reported q bytes s t l asks given is same) clean small why first = absurd (one_answer r file why s t l first (moved (λ x b. IsReported x b s t l) r q file bytes (one_request words q r asks clean.asked) (same_bytes words files loads prints r q file bytes clean asks given) is))
 
 owes_large : (words : List (List ℕ)) (files : Option Files) (loads prints : Change ℕ) (status : ℕ) (to : Stream) (text : List ℕ) (log : List Event) (r : Request) (file : List ℕ)
-    → Owes words files loads.old loads.new status to text log → IsClean words files loads prints r file → image_limit < length file → status ≡ 5
+    → IsOutput words files loads.old loads.new status to text log → IsClean words files loads prints r file → image_limit < length file → status ≡ 5
 owes_large words files loads prints status to text log r file (usage none same) clean above = absurd (none r clean.asked)
 owes_large words files loads prints status to text log r file (failed q asks rose) clean above = refl
 owes_large words files loads prints status to text log r file (large q size asks is same) clean above = refl
-owes_large words files loads prints status to text log r file (misshapen q bytes refusal asks given is same) clean above = absurd (let len = ap length (same_bytes words files loads prints r q file bytes clean asks given) in let small = given.small in omega arith)
+owes_large words files loads prints status to text log r file (bad_topology q bytes refusal asks given is same) clean above = absurd (let len = ap length (same_bytes words files loads prints r q file bytes clean asks given) in let small = given.small in omega arith)
 owes_large words files loads prints status to text log r file (refused q bytes refusal asks given is same) clean above = absurd (let len = ap length (same_bytes words files loads prints r q file bytes clean asks given) in let small = given.small in omega arith)
 owes_large words files loads prints status to text log r file (reported q bytes s t l asks given is same) clean above = absurd (let len = ap length (same_bytes words files loads prints r q file bytes clean asks given) in let small = given.small in omega arith)
 

@@ -1,4 +1,4 @@
--- What a log records: a sequential run; and a plain run is one.
+-- What a log records: a sequential run; and a run in rotation is one.
 use Rattle.std.proofs.Common.{◌*◌, ◌/◌, ◌≤◌, ◌≡◌, ℕ, ◌+◌, Bool, true, false, List, [], ◌∷◌, ◌++◌, refl, sym, ◌∙◌, ap, subst, ◌<◌, ◌%◌, ◌⊎◌, inl, inr, zero, suc, length, map, arith, mod-lt, slice_get, Some, append_assoc, append-nil}
 use mathlib.Core.HLevel.{is_prop→PathP}
 use Rattle.std.proofs.Props.{props}
@@ -15,22 +15,21 @@ use Rattle.dash_event.specs.Records.{unseen, accesses_in, accesses_of, records_i
 use Rattle.dash_event.specs.declared.step_record.StepRecord.{StepRecord}
 use Rattle.dash_event.specs.declared.event.Kind.{Kind}
 use Rattle.dash_event.specs.declared.event.Kind.TheVariants as kind
-use Rattle.hart_core.specs.declared.need.Need.{Need}
-use Rattle.hart_core.specs.declared.need.Need.TheVariants.{Load, Rmw}
+use Rattle.dash_base.specs.declared.need.Need.{Need}
+use Rattle.dash_base.specs.declared.need.Need.TheVariants.{Load, Rmw}
 use Rattle.hart_core.specs.Meaning.{Needs}
-use Rattle.hart_core.specs.Opening.{hart_count}
-use Rattle.hart_core.proofs.Unique.{one_need, needs_of}
-use Rattle.flat_model.specs.Offered.{offered}
+use Rattle.dash_base.specs.Places.{hart_count}
+use Rattle.hart_core.proofs.LawsOffered.{one_need, needs_of}
+use Rattle.dash_event.specs.Offered.{offered}
 use Rattle.flat_model.specs.State.{FlatState}
 use Rattle.flat_model.specs.Step.{record_of, content}
-use Rattle.flat_model.specs.Run.{IsCompleteRun, IsStanding}
+use Rattle.flat_model.specs.Run.{IsCompleteSequentialRun, IsFlatStopped}
 use Rattle.flat_model.specs.Driven as driven
-use Rattle.flat_model.specs.Held.{harts_of}
+use Rattle.flat_model.specs.Represents.{harts_of}
 use Rattle.flat_model.specs.FlatEnd as flat
-use Rattle.flat_model.proofs.DrivenRuns.{driven_run, one_eager_step}
-use Rattle.flat_model.proofs.Steps.{no_step_of}
+use Rattle.flat_model.proofs.LawsOffered.{driven_run, one_eager_step, no_step_of}
 use Rattle.dash_run.specs.CommandLine.{Request}
-use Rattle.dash_run.specs.Log.{IsLogged, opens, passes, steps, event_of, kind_of, IsPlainRun}
+use Rattle.dash_run.specs.Log.{IsLogged, opens, passes, steps, event_of, kind_of, IsRotationRun}
 use Rattle.dash_run.specs.Outcome.{IsReported}
 use Rattle.dash_run.specs.Report.{report_of, status_of}
 use Rattle.dash_run.proofs.Turns.{rotation-more, some_harts}
@@ -67,8 +66,8 @@ logged_driven image t _ _ _ (steps {hs} {log} {s} h r new logged does) =
     (sym (records_of-more log (event_of t _ (record { 0 = h }) (s.harts h).pc does.step.need r) ∙ ap (λ rs. records_of log ++ rs) is))
     (driven.steps h r new (logged_driven image t hs log s logged) does)
 
-pub plain_complete : (image : ImageView) (t : Topology) (log : List Event) (final : FlatState) → IsPlainRun image t log final
-    → IsCompleteRun image t (records_of log) final
+pub plain_complete : (image : ImageView) (t : Topology) (log : List Event) (final : FlatState) → IsRotationRun image t log final
+    → IsCompleteSequentialRun image t (records_of log) final
 plain_complete image t log final run = record {
   runs = driven_run image t _ (records_of log) final (logged_driven image t _ log final run.logged);
   stands = run.stands;
@@ -149,12 +148,12 @@ one_logged image t _ _ _ _ _ _ (passes {hs} {log} {s} h run idle) (passes {hs = 
 one_logged image t _ _ _ _ _ _ (passes {hs} {log} {s} h run idle) (steps {hs = hs'} {log = log'} {s = s'} h' r' new' run' does') same =
     let ends = same_ends hs hs' h h' same in
     let before = one_logged image t hs hs' log log' s s' run run' ends.0 in
-    let here : IsStanding image t s' h' = subst (λ g. IsStanding image t s' g) ends.1 (subst (λ x. IsStanding image t x h) before.1 idle) in
+    let here : IsFlatStopped image t s' h' = subst (λ g. IsFlatStopped image t s' g) ends.1 (subst (λ x. IsFlatStopped image t x h) before.1 idle) in
     absurd (no_step_of image t s' h' r' new' here does'.step)
 one_logged image t _ _ _ _ _ _ (steps {hs} {log} {s} h r new run does) (passes {hs = hs'} {log = log'} {s = s'} h' run' idle') same =
     let ends = same_ends hs hs' h h' same in
     let before = one_logged image t hs hs' log log' s s' run run' ends.0 in
-    let here : IsStanding image t s h = subst (λ g. IsStanding image t s g) (sym ends.1) (subst (λ x. IsStanding image t x h') (sym before.1) idle') in
+    let here : IsFlatStopped image t s h = subst (λ g. IsFlatStopped image t s g) (sym ends.1) (subst (λ x. IsFlatStopped image t x h') (sym before.1) idle') in
     absurd (no_step_of image t s h r new here does.step)
 one_logged image t _ _ _ _ _ _ (steps {hs} {log} {s} h r new run does) (steps {hs = hs'} {log = log'} {s = s'} h' r' new' run' does') same =
     let ends = same_ends hs hs' h h' same in
@@ -163,7 +162,7 @@ one_logged image t _ _ _ _ _ _ (steps {hs} {log} {s} h r new run does) (steps {h
 
 -- where no hart can go on, so many further turns only pass
 passes_on : (image : ImageView) (t : Topology) (turns : ℕ) (log : List Event) (s : FlatState) → IsLogged image t (driven.rotation (hart_count t) turns) log s
-    → ((h : ℕ) → h < hart_count t → IsStanding image t s h) → (more : ℕ) → IsLogged image t (driven.rotation (hart_count t) (turns + more)) log s
+    → ((h : ℕ) → h < hart_count t → IsFlatStopped image t s h) → (more : ℕ) → IsLogged image t (driven.rotation (hart_count t) (turns + more)) log s
 passes_on image t turns log s run stands zero =
     let none : turns ≡ turns + 0 = omega arith in subst (λ n. IsLogged image t (driven.rotation (hart_count t) n) log s) none run
 passes_on image t turns log s run stands (suc more) =
@@ -183,9 +182,9 @@ difference (suc a) (suc b) = lifted (difference a b) where
   lifted (inl (k, is)) = inl (k, omega arith)
   lifted (inr (k, is)) = inr (k, omega arith)
 
-pub one_plain_run : (image : ImageView) (t : Topology) (log log' : List Event) (final final' : FlatState)
-    → IsPlainRun image t log final → IsPlainRun image t log' final' → (log ≡ log') × (final ≡ final')
-one_plain_run image t log log' final final' run run' = by_case (difference run.turns run'.turns) where
+pub one_rotation_run : (image : ImageView) (t : Topology) (log log' : List Event) (final final' : FlatState)
+    → IsRotationRun image t log final → IsRotationRun image t log' final' → (log ≡ log') × (final ≡ final')
+one_rotation_run image t log log' final final' run run' = by_case (difference run.turns run'.turns) where
   by_case : ((k : ℕ) × (run.turns + k ≡ run'.turns)) ⊎ ((k : ℕ) × (run'.turns + k ≡ run.turns)) → (log ≡ log') × (final ≡ final')
   by_case (inl (k, is)) =
       one_logged image t _ _ log log' final final' (passes_on image t run.turns log final run.logged run.stands k) run'.logged (ap (driven.rotation (hart_count t)) is)
@@ -242,8 +241,8 @@ pub one_report : (q : Request) (bytes : List ℕ) (status status' : ℕ) (text t
     → IsReported q bytes status text log → IsReported q bytes status' text' log' → (status ≡ status') × (text ≡ text') × (log ≡ log')
 one_report q bytes status status' text text' log log' a b =
     let machine : a.machine ≡ b.machine = one_machine q.clusters q.harts q.budget a.machine b.machine a.is_machine.simple b.is_machine.simple in
-    let run : IsPlainRun (image_of bytes) b.machine log a.state = subst (λ t. IsPlainRun (image_of bytes) t log a.state) machine a.run in
-    let one = one_plain_run (image_of bytes) b.machine log log' a.state b.state run b.run in
+    let run : IsRotationRun (image_of bytes) b.machine log a.state = subst (λ t. IsRotationRun (image_of bytes) t log a.state) machine a.run in
+    let one = one_rotation_run (image_of bytes) b.machine log log' a.state b.state run b.run in
     let logs : log ≡ log' = one.0 in
     let states : a.state ≡ b.state = one.1 in (
       a.is_status ∙ (λ i. status_of (machine i) (harts_of (machine i) (states i))) ∙ sym b.is_status,

@@ -8,13 +8,13 @@ use Rattle.dash_event.specs.declared.event.Event.{Event}
 use Rattle.dash_event.specs.declared.step_record.StepRecord.{StepRecord}
 use Rattle.elf_load.specs.Image.{ImageView}
 use Rattle.hart_core.specs.HartState.{HartState}
-use Rattle.hart_core.specs.Opening.{hart_count}
-use Rattle.hart_core.specs.declared.need.Need.{Need}
+use Rattle.dash_base.specs.Places.{hart_count}
+use Rattle.dash_base.specs.declared.need.Need.{Need}
 use Rattle.flat_model.specs.State.{FlatState, opening_state}
 use Rattle.flat_model.specs.Step.{console_after}
-use Rattle.flat_model.specs.Run.{IsStanding}
+use Rattle.flat_model.specs.Run.{IsFlatStopped}
 use Rattle.flat_model.specs.Driven.{rotation}
-use Rattle.flat_model.specs.Held.{MachineView, IsHeld, IsDone}
+use Rattle.flat_model.specs.Represents.{MachineView, Represents, IsDone}
 use Rattle.dash_run.specs.Log.{IsLogged, opens, passes, steps, event_of}
 use Rattle.dash_run.specs.Turns.{IsPassed, IsUnderWay, IsEnd, turn_after}
 
@@ -100,7 +100,7 @@ some_harts t =
 -- a run goes on where the hart whose turn it is is passed over
 pub passed_on : (image : ImageView) (t : Topology) (m : MachineView) (console : List ℕ) (log : List Event) (next idle : ℕ)
     → next < hart_count t → IsUnderWay image t m console log next idle
-    → ((s : FlatState) → IsHeld t m s → IsStanding image t s next)
+    → ((s : FlatState) → Represents t m s → IsFlatStopped image t s next)
     → IsUnderWay image t m console log (turn_after next (hart_count t)) (idle + 1)
 passed_on image t m console log next idle inside run idles =
     let now = idles run.state run.held in
@@ -115,14 +115,14 @@ passed_on image t m console log next idle inside run idles =
       turn = next_turn next (hart_count t) run.turns inside run.turn;
       passed = λ h here passed. passed_or_now h here (passed_before (hart_count t) next idle h inside here passed);
     } where
-      passed_or_now : (h : ℕ) → h < hart_count t → (h ≡ next) ⊎ IsPassed (hart_count t) next idle h → IsStanding image t run.state h
-      passed_or_now h here (inl same) = let at : ℕ → Type 0 = λ x. IsStanding image t run.state x in subst at (sym same) (idles run.state run.held)
+      passed_or_now : (h : ℕ) → h < hart_count t → (h ≡ next) ⊎ IsPassed (hart_count t) next idle h → IsFlatStopped image t run.state h
+      passed_or_now h here (inl same) = let at : ℕ → Type 0 = λ x. IsFlatStopped image t run.state x in subst at (sym same) (idles run.state run.held)
       passed_or_now h here (inr before) = run.passed h here before
 
 -- and where it does its next instruction
 pub stepped_on : (image : ImageView) (t : Topology) (m m' : MachineView) (console console' : List ℕ) (log log' : List Event) (next idle pc : ℕ) (need : Need) (r : StepRecord)
     → next < hart_count t → IsUnderWay image t m console log next idle
-    → ((s : FlatState) → IsHeld t m s → IsDone image t s next need pc r m')
+    → ((s : FlatState) → Represents t m s → IsDone image t s next need pc r m')
     → console' ≡ console_after r console → log' ≡ log ++ event_of t (length log) (record { 0 = next }) pc need r ∷ []
     → IsUnderWay image t m' console' log' (turn_after next (hart_count t)) 0
 stepped_on image t m m' console console' log log' next idle pc need r inside run does console_same log_same =
@@ -161,7 +161,7 @@ ended_now image t m harts console log next idle inside enough run same = record 
 }
 
 -- a run begins with the turn of hart 0
-pub opened : (image : ImageView) (t : Topology) (m : MachineView) → IsHeld t m (opening_state image t) → IsUnderWay image t m [] [] 0 0
+pub opened : (image : ImageView) (t : Topology) (m : MachineView) → Represents t m (opening_state image t) → IsUnderWay image t m [] [] 0 0
 opened image t m held = record {
   turns = 0;
   state = opening_state image t;

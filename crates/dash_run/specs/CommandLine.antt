@@ -43,8 +43,8 @@ Asks (command ∷ image ∷ clusters ∷ harts ∷ budget ∷ []) q = AsksWith c
 Asks _ q = ⊥
 
 -- the words have no form that is served
-abbrev pub IsFormless : List (List ℕ) → Type 0
-IsFormless words = (q : Request) → Asks words q → ⊥
+abbrev pub IsUsageError : List (List ℕ) → Type 0
+IsUsageError words = (q : Request) → Asks words q → ⊥
 
 -- the words ask for something
 pub record IsAsked (words : List (List ℕ)) : Type 0 where

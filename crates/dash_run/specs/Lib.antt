@@ -2,6 +2,6 @@ pub mod CommandLine
 pub mod Log
 pub mod Report
 pub mod Outcome
-pub mod Owed
+pub mod Output
 pub mod Turns
 pub mod Laws

@@ -1,9 +1,9 @@
--- The log of the plain machine, which takes the harts in rotation over one flat memory: an event for each step.
+-- The log of the sequential machine, which takes the harts in rotation over one memory: an event for each step.
 use Rattle.std.specs.Prelude.{ℕ, ◌+◌, ◌<◌, List, [], ◌∷◌, ◌++◌, length, Option, Some, None}
 use Rattle.dash_base.specs.declared.id.HartId.{HartId}
 use Rattle.dash_base.specs.declared.topology.Topology.{Topology}
 use Rattle.elf_load.specs.Image.{ImageView}
-use Rattle.dash_event.specs.Places.{cluster_of, line_of}
+use Rattle.dash_base.specs.Places.{cluster_of, line_of, hart_count}
 use Rattle.dash_event.specs.declared.access.Access.{Access}
 use Rattle.dash_event.specs.declared.access.Op.{Op}
 use Rattle.dash_event.specs.declared.access.Op.TheVariants as op
@@ -12,11 +12,10 @@ use Rattle.dash_event.specs.declared.event.Kind.{Kind}
 use Rattle.dash_event.specs.declared.event.Kind.TheVariants as kind
 use Rattle.dash_event.specs.declared.step_record.StepRecord.{StepRecord}
 use Rattle.dash_event.specs.declared.step_record.StepRecord.TheVariants as step
-use Rattle.hart_core.specs.declared.need.Need.{Need}
-use Rattle.hart_core.specs.declared.need.Need.TheVariants as needed
-use Rattle.hart_core.specs.Opening.{hart_count}
+use Rattle.dash_base.specs.declared.need.Need.{Need}
+use Rattle.dash_base.specs.declared.need.Need.TheVariants as needed
 use Rattle.flat_model.specs.State.{FlatState, opening_state}
-use Rattle.flat_model.specs.Run.{IsStanding}
+use Rattle.flat_model.specs.Run.{IsFlatStopped}
 use Rattle.flat_model.specs.Driven.{IsEagerStep, rotation}
 
 -- an SC that wrote, or one that failed
@@ -55,13 +54,13 @@ event_of t before hart pc need r =
 pub data IsLogged (image : ImageView) (t : Topology) : List ℕ → List Event → FlatState → Type 0 where
   opens : IsLogged image t [] [] (opening_state image t)
   passes : {hs : List ℕ} {log : List Event} {s : FlatState} (h : ℕ)
-      → IsLogged image t hs log s → IsStanding image t s h → IsLogged image t (hs ++ h ∷ []) log s
+      → IsLogged image t hs log s → IsFlatStopped image t s h → IsLogged image t (hs ++ h ∷ []) log s
   steps : {hs : List ℕ} {log : List Event} {s : FlatState} (h : ℕ) (r : StepRecord) (new : FlatState)
       → IsLogged image t hs log s → (does : IsEagerStep image t s h r new)
       → IsLogged image t (hs ++ h ∷ []) (log ++ event_of t (length log) (record { 0 = h }) (s.harts h).pc does.step.need r ∷ []) new
 
--- the plain machine's run: it takes the harts in rotation until none can go on
-pub record IsPlainRun (image : ImageView) (t : Topology) (log : List Event) (final : FlatState) : Type 0 where
+-- the run in rotation: the sequential machine takes the harts in rotation until none can go on
+pub record IsRotationRun (image : ImageView) (t : Topology) (log : List Event) (final : FlatState) : Type 0 where
   pub turns : ℕ
   pub logged : IsLogged image t (rotation (hart_count t) turns) log final
-  pub stands : (h : ℕ) → h < hart_count t → IsStanding image t final h
+  pub stands : (h : ℕ) → h < hart_count t → IsFlatStopped image t final h

@@ -17,10 +17,10 @@ use Rattle.elf_load.specs.declared.memory_map.MemoryMap.{MemoryMap}
 use Rattle.elf_load.specs.declared.refusal.LoadRefusal.{LoadRefusal}
 use Rattle.elf_load.specs.declared.refusal.LoadRefusal.TheVariants.{Short, NotElf, NotClass32Little, NotRiscv, NotExec, Compressed, Reduced, HeaderSize, SegmentOutOfFile, FileSizeAboveMemory, SegmentOutOfMemory, Overlap, NoSegment, EntryNotExecutable, OutOfMemory}
 use Rattle.flat_model.specs.State.{FlatState}
-use Rattle.flat_model.specs.Run.{IsCompleteRun}
-use Rattle.flat_model.specs.Held.{harts_of}
-use Rattle.dash_run.specs.CommandLine.{Request, Asks, IsFormless}
-use Rattle.dash_run.specs.Log.{IsPlainRun}
+use Rattle.flat_model.specs.Run.{IsCompleteSequentialRun}
+use Rattle.flat_model.specs.Represents.{harts_of}
+use Rattle.dash_run.specs.CommandLine.{Request, Asks, IsUsageError}
+use Rattle.dash_run.specs.Log.{IsRotationRun}
 use Rattle.dash_run.specs.Report.{newline, hex, report_of, status_of}
 
 -- an image file has at most so many bytes
@@ -91,7 +91,7 @@ refusal_line refusal = codes "dash: image: " ++ refusal_text refusal ++ newline
 pub record IsRefusedTopology (q : Request) (refusal : TopoRefusal) : Type 0 where
   pub refused : simple_refusal q.clusters q.harts q.budget ≡ Some refusal
 
--- the machine that is asked for, and where its memory lies
+-- the machine that is asked for, and the range of its memory
 pub record IsMachine (q : Request) (t : Topology) (map : MemoryMap) : Type 0 where
   pub simple : IsSimple q.clusters q.harts q.budget t
   pub accepted : simple_refusal q.clusters q.harts q.budget ≡ None
@@ -105,14 +105,14 @@ pub record IsRefused (q : Request) (bytes : List ℕ) (refusal : LoadRefusal) : 
   pub is_machine : IsMachine q machine map
   pub refused : IsFirstRefusal bytes map refusal
 
--- the topology and an image with these bytes are accepted, and the plain machine's run of it ends with this exit status, report and log
+-- the topology and an image with these bytes are accepted, and its run in rotation ends with this exit status, report and log
 pub record IsReported (q : Request) (bytes : List ℕ) (status : ℕ) (text : List ℕ) (log : List Event) : Type 0 where
   pub machine : Topology
   pub map : MemoryMap
   pub is_machine : IsMachine q machine map
   pub accepted : IsLoadable bytes map
   pub state : FlatState
-  pub run : IsPlainRun (image_of bytes) machine log state
+  pub run : IsRotationRun (image_of bytes) machine log state
   pub is_status : status ≡ status_of machine (harts_of machine state)
   pub is_text : text ≡ report_of machine state log
 
@@ -127,24 +127,24 @@ pub record IsTooLarge (files : Option Files) (name : List ℕ) (size : ℕ) : Ty
   pub told : IfSome files (λ file_at. IsSomeAnd (file_at name) (λ bytes. length bytes ≡ size))
 
 -- What a call owes, an exit status, one text on one stream and a log, and why. The counts are the host's failed loads, before and after.
-pub data Owes (words : List (List ℕ)) (files : Option Files) (before after : ℕ) : ℕ → Stream → List ℕ → List Event → Type 0 where
+pub data IsOutput (words : List (List ℕ)) (files : Option Files) (before after : ℕ) : ℕ → Stream → List ℕ → List Event → Type 0 where
   -- the words have no form that is served
-  usage : IsFormless words → after ≡ before → Owes words files before after 2 stream.Err usage_line []
+  usage : IsUsageError words → after ≡ before → IsOutput words files before after 2 stream.Err usage_line []
   -- the image's file couldn't be read
   failed : (q : Request) → Asks words q → Rose before after
-      → Owes words files before after 5 stream.Err (failed_line q.name) []
+      → IsOutput words files before after 5 stream.Err (failed_line q.name) []
   -- it is larger than the limit
   large : (q : Request) (size : ℕ) → Asks words q → IsTooLarge files q.name size → after ≡ before
-      → Owes words files before after 5 stream.Err (large_line q.name size) []
+      → IsOutput words files before after 5 stream.Err (large_line q.name size) []
   -- the topology is refused
-  misshapen : (q : Request) (bytes : List ℕ) (refusal : TopoRefusal) → Asks words q → IsGiven files q.name bytes → IsRefusedTopology q refusal → after ≡ before
-      → Owes words files before after 4 stream.Err (topology_line refusal) []
+  bad_topology : (q : Request) (bytes : List ℕ) (refusal : TopoRefusal) → Asks words q → IsGiven files q.name bytes → IsRefusedTopology q refusal → after ≡ before
+      → IsOutput words files before after 4 stream.Err (topology_line refusal) []
   -- the image is refused
   refused : (q : Request) (bytes : List ℕ) (refusal : LoadRefusal) → Asks words q → IsGiven files q.name bytes → IsRefused q bytes refusal → after ≡ before
-      → Owes words files before after 3 stream.Err (refusal_line refusal) []
+      → IsOutput words files before after 3 stream.Err (refusal_line refusal) []
   -- its run is reported
   reported : (q : Request) (bytes : List ℕ) (status : ℕ) (text : List ℕ) (log : List Event) → Asks words q → IsGiven files q.name bytes → IsReported q bytes status text log → after ≡ before
-      → Owes words files before after status stream.Out text log
+      → IsOutput words files before after status stream.Out text log
 
 -- a count of a host's faults, or what it had printed, before a call and after it
 pub record Change (A : Type 0) : Type 0 where
@@ -154,10 +154,10 @@ pub record Change (A : Type 0) : Type 0 where
 -- how a call ended, with an exit status and a log
 pub data Ends (words : List (List ℕ)) (files : Option Files) (loads prints : Change ℕ) (printed : Change (Option Printed)) : ℕ → List Event → Type 0 where
   -- it printed all that it owes
-  printed_all : (status : ℕ) (to : Stream) (text : List ℕ) (log : List Event) → Owes words files loads.old loads.new status to text log
+  printed_all : (status : ℕ) (to : Stream) (text : List ℕ) (log : List Event) → IsOutput words files loads.old loads.new status to text log
       → prints.new ≡ prints.old → Follows (Appends to text) printed.old printed.new → Ends words files loads prints printed status log
   -- a print failed, after a part of it
-  print_failed : (status : ℕ) (to : Stream) (text : List ℕ) (log : List Event) → Owes words files loads.old loads.new status to text log
+  print_failed : (status : ℕ) (to : Stream) (text : List ℕ) (log : List Event) → IsOutput words files loads.old loads.new status to text log
       → Rose prints.old prints.new → Follows (AppendsPart to text) printed.old printed.new → Ends words files loads prints printed 5 log
   -- there was no memory: it printed nothing
   out_of_memory : (q : Request) → Asks words q
@@ -173,7 +173,7 @@ pub record IsAccepted (q : Request) (bytes : List ℕ) : Type 0 where
   pub image : (refusal : LoadRefusal) → IsRefused q bytes refusal → ⊥
 
 -- the words ask for a topology that is refused
-pub record NamesMisshapen (words : List (List ℕ)) (files : Option Files) : Type 0 where
+pub record NamesBadTopology (words : List (List ℕ)) (files : Option Files) : Type 0 where
   pub request : Request
   pub asked : Asks words request
   pub bytes : List ℕ
@@ -210,7 +210,7 @@ pub record RunsSequentially (words : List (List ℕ)) (files : Option Files) (lo
   pub is_machine : IsMachine request machine map
   pub accepted : IsLoadable bytes map
   pub final : FlatState
-  pub complete : IsCompleteRun (image_of bytes) machine (records_of log) final
+  pub complete : IsCompleteSequentialRun (image_of bytes) machine (records_of log) final
 
 -- the words ask for an image that is larger than the limit
 pub record NamesLarge (words : List (List ℕ)) (files : Option Files) : Type 0 where

@@ -15,7 +15,7 @@ use Rattle.dash_event.specs.declared.access.Seen.TheVariants as seen
 use Rattle.dash_event.specs.declared.event.Event.{Event}
 use Rattle.hart_core.specs.HartState.{HartState, is_running}
 use Rattle.flat_model.specs.State.{FlatState}
-use Rattle.flat_model.specs.Held.{harts_of}
+use Rattle.flat_model.specs.Represents.{harts_of}
 use Rattle.dash_event.specs.Records.{accesses_of}
 
 abbrev pub is_trapped : End → Bool

@@ -3,13 +3,13 @@ use Rattle.std.specs.Prelude.{◌≡◌, ◌⊎◌, ◌<◌, ◌≤◌, ℕ, ◌
 use Rattle.dash_base.specs.declared.topology.Topology.{Topology}
 use Rattle.dash_event.specs.declared.event.Event.{Event}
 use Rattle.elf_load.specs.Image.{ImageView}
-use Rattle.hart_core.specs.Opening.{hart_count}
+use Rattle.dash_base.specs.Places.{hart_count}
 use Rattle.flat_model.specs.State.{FlatState}
-use Rattle.flat_model.specs.Run.{IsStanding}
+use Rattle.flat_model.specs.Run.{IsFlatStopped}
 use Rattle.flat_model.specs.Driven.{rotation}
 use Rattle.hart_core.specs.HartState.{HartState}
-use Rattle.flat_model.specs.Held.{MachineView, IsHeld, harts_of, all_work_left}
-use Rattle.dash_run.specs.Log.{IsLogged, IsPlainRun}
+use Rattle.flat_model.specs.Represents.{MachineView, Represents, harts_of, all_work_left}
+use Rattle.dash_run.specs.Log.{IsLogged, IsRotationRun}
 
 -- hart h is one of the last so many before the hart whose turn it is
 abbrev pub IsPassed : ℕ → ℕ → ℕ → ℕ → Type 0
@@ -20,15 +20,15 @@ pub record IsUnderWay (image : ImageView) (t : Topology) (machine : MachineView)
   pub turns : ℕ
   pub state : FlatState
   pub logged : IsLogged image t (rotation (hart_count t) turns) log state
-  pub held : IsHeld t machine state
+  pub held : Represents t machine state
   pub console_is : state.console ≡ console
   pub turn : next ≡ turns % hart_count t
-  pub passed : (h : ℕ) → h < hart_count t → IsPassed (hart_count t) next idle h → IsStanding image t state h
+  pub passed : (h : ℕ) → h < hart_count t → IsPassed (hart_count t) next idle h → IsFlatStopped image t state h
 
--- the harts, console and log at the end of the plain machine's run
+-- the harts, console and log at the end of the run in rotation
 pub record IsEnd (image : ImageView) (t : Topology) (harts : List HartState) (console : List ℕ) (log : List Event) : Type 0 where
   pub state : FlatState
-  pub run : IsPlainRun image t log state
+  pub run : IsRotationRun image t log state
   pub harts_are : harts ≡ harts_of t state
   pub console_is : state.console ≡ console
 

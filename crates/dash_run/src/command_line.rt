@@ -1,6 +1,6 @@
 //! The words of a command line.
 ghost use Rattle.std.specs.Prelude.{◌≡◌, ◌≢◌, ◌<◌, ◌^◌, ℕ, IfSome, IfNone, map, string_bytes, codes, decimal, IsTrue, true, ◌↔◌};
-ghost use Rattle.dash_run.specs.CommandLine.{Request, is_name, Asks, AsksAlone, AsksWith, IsFormless, IsNumber};
+ghost use Rattle.dash_run.specs.CommandLine.{Request, is_name, Asks, AsksAlone, AsksWith, IsUsageError, IsNumber};
 
 use itoa::Buffer;
 
@@ -17,7 +17,7 @@ pub struct Command<'a> {
 pub fn read_words(words: &[String]) -> Option<Command<'_>>
     ensures some { IfSome result (λ q. Asks (map string_bytes words.now)
         (record { name = q.name.now; clusters = q.clusters; harts = q.harts; budget = q.budget })) }
-    ensures none { IfNone result (IsFormless (map string_bytes words.now)) }
+    ensures none { IfNone result (IsUsageError (map string_bytes words.now)) }
 {
     match words {
         [command, image] => read_alone(command.as_str(), image.as_str()),

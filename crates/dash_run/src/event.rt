@@ -1,10 +1,10 @@
-//! The event of a step of the plain machine.
+//! The event of a step of the sequential machine.
 ghost use Rattle.std.specs.Prelude.{◌≡◌, ◌+◌, ◌<◌, ◌^◌, ◌++◌, ◌∷◌, [], length, OnOk};
 ghost use Rattle.dash_event.specs.declared.event.Kind.TheVariants.{Rmw};
-ghost use Rattle.dash_event.specs.Places.{cluster_of, line_of};
+ghost use Rattle.dash_base.specs.Places.{line_of};
 ghost use Rattle.dash_run.specs.Log.{cond_kind, access_kind, quiet_kind, kind_of, event_of};
 
-use dash_base::{ClusterId, HartId, LineId, OutOfMemory, Topology, WordAddr};
+use dash_base::{HartId, OutOfMemory, Topology};
 use dash_event::{Access, Event, Kind, Op, StepRecord};
 use flat_model::Done;
 use hart_core::Need;
@@ -14,7 +14,7 @@ pub fn note(log: &mut Vec<Event>, topology: &Topology, done: &Done) -> Result<()
     ensures { OnOk result (log.new.items ≡ log.old.items ++ event_of topology.now (length log.old.items) done.now.hart done.now.pc done.now.need done.now.record ∷ []) }
 {
     let stamp = log.len() as u64 + 1;
-    let cluster = cluster_of(topology, done.hart);
+    let cluster = topology.cluster_of(done.hart);
     let kind: Kind = kind_of(topology, done);
     log.push(Event {
         stamp,
@@ -51,7 +51,7 @@ fn access_kind(topology: &Topology, access: &Access) -> Kind
         },
         Op::Ask => Kind::Grant { access: *access },
         Op::Unlock => Kind::Free {
-            from: cluster_of(topology, access.hart),
+            from: topology.cluster_of(access.hart),
             access: *access,
         },
     }
@@ -63,7 +63,7 @@ fn committed(topology: &Topology, access: &Access) -> Kind
 {
     Kind::Rmw {
         access: *access,
-        line: line_of(topology, access.word),
+        line: topology.line_of(access.word),
         version: 0,
     }
 }
@@ -91,16 +91,4 @@ fn quiet_kind(hart: HartId, pc: u32, need: &Need) -> Kind
         },
         _ => Kind::Alu { hart, pc },
     }
-}
-
-fn cluster_of(topology: &Topology, hart: HartId) -> ClusterId
-    ensures { result ≡ cluster_of topology.now hart }
-{
-    ClusterId(hart.0 / topology.harts)
-}
-
-fn line_of(topology: &Topology, word: WordAddr) -> LineId
-    ensures { result ≡ line_of topology.now word }
-{
-    LineId(word.0.saturating_sub(topology.base) / 16)
 }

@@ -1,15 +1,15 @@
-//! Laws of the plain machine's log, in the words of the sequential machine. The functions do nothing:
+//! Laws of a run's log, in the words of the sequential machine. The functions do nothing:
 //! their contracts are the laws.
-ghost use Rattle.dash_run.specs.Laws.{LoggedRunsAreDriven, PlainRunIsComplete, PrintedAccessesAreTheRecords, OnePlainRun, StampsCount, OneReport};
+ghost use Rattle.dash_run.specs.Laws.{LoggedRunsAreDriven, RotationRunIsComplete, PrintedAccessesAreTheRecords, OneRotationRun, StampsCount, OneReport};
 
 /// The records of a log are those of the run that takes the same harts in order.
 pub fn logged_runs_are_driven()
     ensures { LoggedRunsAreDriven }
 {}
 
-/// The records of a plain run's log are those of a complete sequential run.
-pub fn plain_run_is_complete()
-    ensures { PlainRunIsComplete }
+/// The records of the log of a run in rotation are those of a complete sequential run.
+pub fn rotation_run_is_complete()
+    ensures { RotationRunIsComplete }
 {}
 
 /// The accesses of a log, which the report prints, are those of its records, in their order.
@@ -17,12 +17,12 @@ pub fn printed_accesses_are_the_records()
     ensures { PrintedAccessesAreTheRecords }
 {}
 
-/// An image has one plain run at most on a machine: one log, and one final state.
-pub fn one_plain_run()
-    ensures { OnePlainRun }
+/// An image has one run in rotation at most on a machine: one log, and one final state.
+pub fn one_rotation_run()
+    ensures { OneRotationRun }
 {}
 
-/// The events of a plain run's log are stamped from 1 on.
+/// The events of the log of a run in rotation are stamped from 1 on.
 pub fn stamps_count()
     ensures { StampsCount }
 {}

@@ -12,7 +12,7 @@ mod command_line;
 mod event;
 pub mod laws;
 mod lines;
-mod owed;
+mod output;
 mod report;
 mod rotation;
 #[cfg(test)]

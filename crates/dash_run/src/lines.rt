@@ -37,7 +37,7 @@ pub fn too_large(alloc: Global, name: &str, size: u64) -> Result<String, OutOfMe
 
 /// The line for a topology that is refused.
 #[tactic(auto, unfolding(crate::specs::Outcome::topology_line))]
-pub fn misshapen(alloc: Global, refusal: &TopoRefusal) -> Result<String, OutOfMemory>
+pub fn bad_topology(alloc: Global, refusal: &TopoRefusal) -> Result<String, OutOfMemory>
     ensures { IfOk result (λ text. string_bytes text ≡ topology_line refusal.now) }
 {
     let mut text = String::from_str(alloc, "dash: topology: ")?;

@@ -1,8 +1,8 @@
-//! The plain machine's run: the harts take turns in the order of their numbers, again and again.
+//! The sequential machine's run in rotation: the harts take turns in the order of their numbers, again and again.
 ghost use Rattle.std.specs.Prelude.{◌≡◌, ◌<◌, IfOk, OnOk};
 ghost use Rattle.flat_model.specs.Step.{console_after};
-ghost use Rattle.flat_model.specs.Held.{IsSized};
-ghost use Rattle.hart_core.specs.Opening.{hart_count};
+ghost use Rattle.flat_model.specs.Represents.{IsSized};
+ghost use Rattle.dash_base.specs.Places.{hart_count};
 ghost use Rattle.dash_run.specs.Turns.{IsEnd, IsUnderWay, turn_after, turns_left};
 
 use crate::event::note;
@@ -29,7 +29,7 @@ pub fn run(alloc: Global, image: &Image, topology: &Topology) -> Result<Finished
     let mut machine = FlatMachine::new(alloc, image, topology)?;
     let mut console = Vec::new(alloc);
     let mut log = Vec::new(alloc);
-    let count = topology.clusters * topology.harts;
+    let count = topology.hart_count();
     let mut next = 0;
     let mut idle = 0;
     'turns: while idle < count {

@@ -4,14 +4,14 @@ ghost use Rattle.dash_base.specs.declared.host.Stream.TheVariants as stream;
 ghost use Rattle.dash_base.specs.declared.topology.TopoRefusal.{TopoRefusal};
 ghost use Rattle.dash_base.specs.Outside.{Appends, AppendsPart, Follows, Rose};
 ghost use Rattle.elf_load.specs.declared.refusal.LoadRefusal.{LoadRefusal};
-ghost use Rattle.dash_run.specs.CommandLine.{Request, Asks, IsAsked, IsFormless};
-ghost use Rattle.dash_run.specs.Outcome.{Owes, Ends, IsRefusedTopology, IsRefused, IsAccepted, IsRunStatus, IsFault, IsClean, NamesMisshapen, NamesRefused, NamesRun, RunsSequentially, image_limit};
-ghost use Rattle.dash_run.specs.Owed.{owed_status, owed_stream, owed_text, owed_log};
+ghost use Rattle.dash_run.specs.CommandLine.{Request, Asks, IsAsked, IsUsageError};
+ghost use Rattle.dash_run.specs.Outcome.{IsOutput, Ends, IsRefusedTopology, IsRefused, IsAccepted, IsRunStatus, IsFault, IsClean, NamesBadTopology, NamesRefused, NamesRun, RunsSequentially, image_limit};
+ghost use Rattle.dash_run.specs.Output.{output_status, output_stream, output_text, output_log};
 
 use crate::answer::answer;
 use crate::command_line::read_words;
 use crate::lines;
-use crate::owed::Owed;
+use crate::output::Output;
 use dash_base::{Failed, Host, LoadFault, OutOfMemory, Stream};
 use dash_event::Event;
 use std::alloc::Global;
@@ -36,8 +36,8 @@ pub fn dash<H: Host>(alloc: Global, words: &[String], host: &mut H) -> Ended
         (record { old = H.printed host.old; new = H.printed host.new }) result.status result.log.items }
 
     // Each status has its cause, over any host.
-    ensures usage { result.status ≡ 2 → IsFormless (map string_bytes words.now) }
-    ensures misshapen { result.status ≡ 4 → NamesMisshapen (map string_bytes words.now) (H.files host.old) }
+    ensures usage { result.status ≡ 2 → IsUsageError (map string_bytes words.now) }
+    ensures bad_topology { result.status ≡ 4 → NamesBadTopology (map string_bytes words.now) (H.files host.old) }
     ensures refused { result.status ≡ 3 → NamesRefused (map string_bytes words.now) (H.files host.old) }
     ensures fault { result.status ≡ 5 → IsFault (map string_bytes words.now) (H.files host.old)
         (record { old = H.load_faults host.old; new = H.load_faults host.new })
@@ -49,7 +49,7 @@ pub fn dash<H: Host>(alloc: Global, words: &[String], host: &mut H) -> Ended
     ensures sequential { IsRunStatus result.status → RunsSequentially (map string_bytes words.now) (H.files host.old) result.log.items }
 
     // And each cause has its status, but for want of memory.
-    ensures no_form { IsFormless (map string_bytes words.now)
+    ensures no_form { IsUsageError (map string_bytes words.now)
         → (result.status ≡ 2) ⊎ ((result.status ≡ 5) × Rose (H.print_faults host.old) (H.print_faults host.new)) }
     ensures load_failed { H.load_faults host.old < H.load_faults host.new → (result.status ≡ 5) ⊎ (result.status ≡ 6) }
     ensures print_failed { H.print_faults host.old < H.print_faults host.new → result.status ≡ 5 }
@@ -102,23 +102,23 @@ fn carry_out<H: Host>(alloc: Global, words: &[String], host: &mut H) -> Ended
 }
 
 /// Loads the image that the words name, and makes what is to be printed.
-fn prepare<H: Host>(alloc: Global, words: &[String], host: &mut H) -> Result<Owed, OutOfMemory>
+fn prepare<H: Host>(alloc: Global, words: &[String], host: &mut H) -> Result<Output, OutOfMemory>
     requires { (q : Request) → Asks (map string_bytes words.now) q → IsTrue (H.may_load host.old q.name) }
-    ensures owes { IfOk result (λ owed. Owes (map string_bytes words.now) (H.files host.old) (H.load_faults host.old) (H.load_faults host.new) (owed_status owed) (owed_stream owed) (owed_text owed) (owed_log owed)) }
+    ensures owes { IfOk result (λ owed. IsOutput (map string_bytes words.now) (H.files host.old) (H.load_faults host.old) (H.load_faults host.new) (output_status owed) (output_stream owed) (output_text owed) (output_log owed)) }
     ensures memory { OnErr result (IsAsked (map string_bytes words.now)) }
     ensures printed { H.printed host.new ≡ H.printed host.old }
     ensures print_faults { H.print_faults host.new ≡ H.print_faults host.old }
 {
     let Some(command) = read_words(words) else {
-        return Ok(Owed::Usage);
+        return Ok(Output::Usage);
     };
     match host.load(alloc, command.name, lines::IMAGE_LIMIT) {
         Ok(bytes) => Ok(answer(alloc, &command, bytes)?),
-        Err(LoadFault::TooLarge { size }) => Ok(Owed::Line {
+        Err(LoadFault::TooLarge { size }) => Ok(Output::Line {
             status: 5,
             text: lines::too_large(alloc, command.name, size)?,
         }),
-        Err(LoadFault::Failed) => Ok(Owed::Line {
+        Err(LoadFault::Failed) => Ok(Output::Line {
             status: 5,
             text: lines::failed(alloc, command.name)?,
         }),
@@ -127,17 +127,17 @@ fn prepare<H: Host>(alloc: Global, words: &[String], host: &mut H) -> Result<Owe
 }
 
 /// Prints what is owed.
-fn show<H: Host>(host: &mut H, owed: &Owed) -> Result<(), Failed>
-    ensures ok { OnOk result (Follows (Appends (owed_stream owed.now) (owed_text owed.now)) (H.printed host.old) (H.printed host.new)) }
-    ensures err { OnErr result (Follows (AppendsPart (owed_stream owed.now) (owed_text owed.now)) (H.printed host.old) (H.printed host.new)) }
+fn show<H: Host>(host: &mut H, owed: &Output) -> Result<(), Failed>
+    ensures ok { OnOk result (Follows (Appends (output_stream owed.now) (output_text owed.now)) (H.printed host.old) (H.printed host.new)) }
+    ensures err { OnErr result (Follows (AppendsPart (output_stream owed.now) (output_text owed.now)) (H.printed host.old) (H.printed host.new)) }
     ensures failed { OnErr result (Rose (H.print_faults host.old) (H.print_faults host.new)) }
     ensures steady { OnOk result (H.print_faults host.new ≡ H.print_faults host.old) }
     ensures load_faults { H.load_faults host.new ≡ H.load_faults host.old }
 {
     match owed {
-        Owed::Usage => host.print(Stream::Err, lines::usage().as_bytes()),
-        Owed::Line { text, .. } => host.print(Stream::Err, text.as_bytes()),
-        Owed::Report {
+        Output::Usage => host.print(Stream::Err, lines::usage().as_bytes()),
+        Output::Line { text, .. } => host.print(Stream::Err, text.as_bytes()),
+        Output::Report {
             console,
             harts,
             accesses,

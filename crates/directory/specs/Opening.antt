@@ -1,8 +1,9 @@
 -- A home at the start of a run.
-use Rattle.std.specs.Prelude.{◌≡◌, ℕ, ◌+◌, ◌*◌, ◌/◌, [], ◌∷◌, Some, None, if◌then◌else◌}
+use Rattle.std.specs.Prelude.{◌≡◌, ℕ, ◌+◌, [], ◌∷◌, Some, None, if◌then◌else◌}
 use Rattle.std.specs.FinMap.{get}
 use Rattle.dash_base.specs.declared.line.Line.{Line}
 use Rattle.dash_base.specs.declared.topology.Topology.{Topology}
+use Rattle.dash_base.specs.Places.{line_count, address_of}
 use Rattle.elf_load.specs.Image.{ImageView, opening_word}
 use Rattle.directory.specs.declared.entry.EntryState.TheVariants.{Uncached}
 use Rattle.directory.specs.declared.home_line.HomeLine.{HomeLine}
@@ -15,11 +16,11 @@ line_from image a =
 
 -- a line that no cluster has a copy of, with the bytes of the image
 abbrev pub opening_line : ImageView → Topology → ℕ → HomeLine
-opening_line image t line = record { entry = Uncached; content = line_from image (t.base + 16 * line) }
+opening_line image t line = record { entry = Uncached; content = line_from image (address_of t line) }
 
 -- the home of a cluster: just its lines are there, each as it is at the start
 pub record IsOpening (t : Topology) (cluster : ℕ) (image : ImageView) (h : HomeView) : Type 0 where
   pub cluster_is : h.cluster ≡ cluster
   pub clusters_is : h.clusters ≡ t.clusters
-  pub lines_is : h.lines ≡ t.memory / 16
+  pub lines_is : h.lines ≡ line_count t
   pub kept_is : (line : ℕ) → get h.kept line ≡ if is_home h line then Some (opening_line image t line) else None

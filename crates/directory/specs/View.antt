@@ -1,8 +1,9 @@
 -- A home as contracts see it.
-use Rattle.std.specs.Prelude.{◌≡◌, ℕ, zero, suc, ◌%◌, ◌==◌, ◌&&◌, Bool, false, nat_lt, List, [], ◌∷◌, Option, Some, None, is_some, refl}
+use Rattle.std.specs.Prelude.{◌≡◌, ℕ, zero, suc, ◌==◌, ◌&&◌, Bool, false, nat_lt, List, [], ◌∷◌, Option, Some, None, is_some, refl}
 use Rattle.std.specs.Ordering.{nat_cmp}
 use Rattle.std.specs.FinMap.{FinMap, get, insert, code}
 use Rattle.std.specs.Coded.{Coded, code_by, coded×, coded_ℕ, coded_list}
+use Rattle.dash_base.specs.Places.{home_among}
 use Rattle.dash_base.specs.declared.line.Line.{Line}
 use Rattle.dash_base.specs.declared.id.LineId.{LineId}
 use Rattle.dash_base.specs.declared.id.ClusterId.{ClusterId}
@@ -60,7 +61,7 @@ home_code =
 
 -- whether a line is one of memory and has this home
 abbrev pub is_home : HomeView → ℕ → Bool
-is_home h line = nat_lt line h.lines && (line % h.clusters == h.cluster)
+is_home h line = nat_lt line h.lines && (home_among h.clusters line == h.cluster)
 
 -- what is kept of a line; of one that is not kept, an empty line
 abbrev pub kept_in : Option HomeLine → HomeLine

@@ -9,7 +9,7 @@ use crate::burst::Burst;
 use crate::entry::EntryState;
 use crate::home_line::HomeLine;
 use crate::{opening, rows};
-use dash_base::{ClusterId, Line, LineId, OutOfMemory, Topology};
+use dash_base::{ClusterId, Line, LineId, OutOfMemory, Topology, home_among};
 use dash_msg::Msg;
 use elf_load::Image;
 use std::alloc::Global;
@@ -61,17 +61,23 @@ impl Home {
         Ok(Home {
             cluster: cluster.0,
             clusters: topology.clusters,
-            lines: topology.memory / 16,
+            lines: topology.line_count(),
             kept,
         })
     }
 
+    /// What every home keeps: it has just the lines whose home it is. The call does nothing.
+    pub fn keeps_its_lines(&self)
+        ensures { IsWhole self.now }
+    {
+        let _kept = &self.kept;
+    }
+
     /// Whether a line has this home. Each line of a call has it.
     pub fn is_home(&self, line: LineId) -> bool
-        ensures home { result ≡ is_home self.now line.0 }
-        ensures whole { IsWhole self.now }
+        ensures { result ≡ is_home self.now line.0 }
     {
-        line.0 < self.lines && line.0 % self.clusters == self.cluster
+        line.0 < self.lines && home_among(self.clusters, line.0).0 == self.cluster
     }
 
     /// The directory entry of a line.

@@ -1,12 +1,13 @@
 //! The lines of a home at the start of a run.
 ghost use Rattle.std.specs.Prelude.{◌≡◌, ◌<◌, ◌≤◌, ◌+◌, ◌-◌, ◌*◌, ◌/◌, IfOk, map, length};
 ghost use Rattle.std.specs.List.{range_with_len};
+ghost use Rattle.dash_base.specs.Places.{line_count};
 ghost use Rattle.directory.specs.Opening.{line_from, opening_line};
 ghost use Rattle.directory.specs.Kept.{AreKept};
 
 use crate::entry::EntryState;
 use crate::home_line::HomeLine;
-use dash_base::{ClusterId, Line, OutOfMemory, Topology};
+use dash_base::{ClusterId, Line, LineId, OutOfMemory, Topology};
 use elf_load::Image;
 use std::alloc::Global;
 
@@ -29,12 +30,12 @@ fn line_from(image: &Image, address: u32) -> Line
 
 /// A line as it is at the start.
 fn opening_line(image: &Image, topology: &Topology, line: u32) -> HomeLine
-    requires { line < topology.now.memory / 16 }
+    requires { line < line_count topology.now }
     ensures { result ≡ opening_line image.now topology.now line }
 {
     HomeLine {
         entry: EntryState::Uncached,
-        content: line_from(image, topology.base + 16 * line),
+        content: line_from(image, topology.address_of(LineId(line))),
     }
 }
 
@@ -50,9 +51,9 @@ pub fn opening_lines(
         map (λ place. opening_line image.now topology.now (place * topology.now.clusters + cluster.0))
         (range_with_len 0 (length kept.items))) }
     ensures all { IfOk result (λ kept.
-        AreKept cluster.0 topology.now.clusters (topology.now.memory / 16) kept.items) }
+        AreKept cluster.0 topology.now.clusters (line_count topology.now) kept.items) }
 {
-    let count = (topology.memory / 16 - cluster.0).div_ceil(topology.clusters);
+    let count = (topology.line_count() - cluster.0).div_ceil(topology.clusters);
     let mut kept = Vec::with_capacity(alloc, count as usize)?;
     for place in 0..count {
         let line = place * topology.clusters + cluster.0;

@@ -29,7 +29,7 @@ image_of bytes = record {
   segments = map (segment_of bytes) (segment_headers bytes);
 }
 
--- an answer for a file that is refused is the refusal that it gets; want of memory may stand in its place, and for no cause
+-- an answer for a file that is refused is the refusal that it gets; running out of memory may stand in its place, and for no cause
 abbrev pub Refuses : List ℕ → MemoryMap → LoadRefusal → Type 0
 Refuses bytes memory OutOfMemory = Unit {0}
 Refuses bytes memory refusal = IsFirstRefusal bytes memory refusal

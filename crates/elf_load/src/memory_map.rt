@@ -1,4 +1,4 @@
-//! Where memory lies.
+//! The range of memory.
 ghost use Rattle.std.specs.Prelude.{◌≡◌, ◌+◌, ◌%◌, ◌^◌, ◌≤◌};
 
 /// The addresses from `base` on that are memory, `size` bytes of them.

@@ -11,13 +11,14 @@ use Rattle.dash_event.specs.declared.step_record.StepRecord.{StepRecord}
 use Rattle.dash_event.specs.declared.step_record.StepRecord.TheVariants as step
 use Rattle.hart_core.specs.HartState.{HartState, is_running, can_go_on}
 use Rattle.hart_core.specs.Meaning.{Does, is_trap, after_need, retired_after}
-use Rattle.hart_core.specs.declared.need.Found.{Found}
-use Rattle.hart_core.specs.declared.need.Need.{Need}
-use Rattle.hart_core.specs.declared.need.Need.TheVariants.{Stop}
-use Rattle.hart_core.proofs.Needed.{retires}
+use Rattle.hart_core.specs.declared.found.Found.{Found}
+use Rattle.dash_base.specs.declared.need.Need.{Need}
+use Rattle.dash_base.specs.declared.need.Need.TheVariants.{Stop}
+use Rattle.hart_core.proofs.LawsOffered.{retires}
 use Rattle.flat_model.specs.State.{FlatState, opening_state}
-use Rattle.flat_model.specs.Step.{hart_of, IsFlatStep}
-use Rattle.flat_model.specs.Run.{AreSteps, IsSequentialRun}
+use Rattle.flat_model.specs.Step.{IsFlatStep}
+use Rattle.dash_event.specs.Effects.{hart_of}
+use Rattle.flat_model.specs.Run.{AreFlatSteps, IsSequentialRun}
 use Rattle.flat_model.specs.Order.{IsAt, IsAccessAt}
 use Rattle.flat_model.proofs.InRuns.{numbered, at_head}
 
@@ -59,7 +60,7 @@ module _ (image : ImageView) (t : Topology) (g : ℕ) where
       ap (λ x. is_running (x.harts g).end) s.after ∙ ap (λ b. is_running (if b then s.next else old.harts g).end) e ∙ ended
 
   -- and has no more records
-  no_more : (old : FlatState) (rs : List StepRecord) (new : FlatState) → AreSteps image t old rs new → is_running (old.harts g).end ≡ false
+  no_more : (old : FlatState) (rs : List StepRecord) (new : FlatState) → AreFlatSteps image t old rs new → is_running (old.harts g).end ≡ false
       → (i : ℕ) (r : StepRecord) → IsAt rs i r → ¬ ((hart_of r).0 ≡ g)
   no_more old [] new steps ended i r at own = cc
   no_more old (x ∷ rs) new steps ended zero r at own =
@@ -88,12 +89,12 @@ module _ (image : ImageView) (t : Topology) (g : ℕ) where
       omega arith
 
   -- a hart with a record to come is running
-  runs_on : (old : FlatState) (rs : List StepRecord) (new : FlatState) → AreSteps image t old rs new → (i : ℕ) (r : StepRecord) → IsAt rs i r → (hart_of r).0 ≡ g
+  runs_on : (old : FlatState) (rs : List StepRecord) (new : FlatState) → AreFlatSteps image t old rs new → (i : ℕ) (r : StepRecord) → IsAt rs i r → (hart_of r).0 ≡ g
       → (runs : Bool) → is_running (old.harts g).end ≡ runs → runs ≡ true
   runs_on old rs new steps i r at own true e = refl
   runs_on old rs new steps i r at own false e = absurd (no_more old rs new steps e i r at own)
 
-  counted : (old : FlatState) (rs : List StepRecord) (new : FlatState) → AreSteps image t old rs new → (i : ℕ) (a : Access) → IsAccessAt rs i a → a.hart.0 ≡ g
+  counted : (old : FlatState) (rs : List StepRecord) (new : FlatState) → AreFlatSteps image t old rs new → (i : ℕ) (a : Access) → IsAccessAt rs i a → a.hart.0 ≡ g
       → a.number ≡ count_by (λ r. g == (hart_of r).0) (take i rs) + ((old.harts g).retired + 1)
   counted old [] new steps i a at own = absurd cc
   counted old (x ∷ rs) new steps zero a at own =

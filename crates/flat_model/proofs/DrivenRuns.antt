@@ -4,15 +4,15 @@ use Rattle.dash_base.specs.declared.ops.AmoOp.TheVariants.{Sc}
 use Rattle.dash_base.specs.declared.topology.Topology.{Topology}
 use Rattle.elf_load.specs.Image.{ImageView}
 use Rattle.dash_event.specs.declared.step_record.StepRecord.{StepRecord}
-use Rattle.hart_core.specs.declared.need.Need.{Need}
-use Rattle.hart_core.specs.declared.need.Need.TheVariants.{Load, Store, Rmw, Ask, Unlock}
-use Rattle.flat_model.specs.Offered.{offered}
+use Rattle.dash_base.specs.declared.need.Need.{Need}
+use Rattle.dash_base.specs.declared.need.Need.TheVariants.{Load, Store, Rmw, Ask, Unlock}
+use Rattle.dash_event.specs.Offered.{offered}
 use Rattle.flat_model.specs.State.{FlatState, opening_state}
 use Rattle.flat_model.specs.Step.{record_of, content, IsFlatStep}
 use Rattle.flat_model.specs.Run.{RunsTo}
 use Rattle.flat_model.specs.InOrder.{SucceedsWhereItCan, IsTurn, AreTurns, IsRunInOrder}
 use Rattle.flat_model.specs.Driven.{is_reserved, succeeds_on, IsEagerStep, IsDriven, opens, passes, steps}
-use Rattle.hart_core.proofs.Unique.{one_need, needs_of}
+use Rattle.hart_core.proofs.LawsOffered.{one_need, needs_of}
 use Rattle.flat_model.proofs.Steps.{one_new}
 use Rattle.flat_model.proofs.InOrder.{one_record, turns_are_steps, turns_are_one}
 

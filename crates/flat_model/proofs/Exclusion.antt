@@ -20,13 +20,13 @@ use Rattle.hart_core.specs.HartState.{HartState, reg}
 use Rattle.hart_core.specs.Access.{size_of, in_locks, trap_or, load_need, store_need, rmw_need, amo_need, access_trap, is_ask, is_unlock}
 use Rattle.hart_core.specs.declared.width.Width.{Width}
 use Rattle.hart_core.specs.Meaning.{need_at, jump_need, call_need, instr_need}
-use Rattle.hart_core.specs.declared.need.Found.{Found}
-use Rattle.hart_core.specs.declared.need.Found.TheVariants.{This}
-use Rattle.hart_core.specs.declared.need.Need.{Need}
-use Rattle.hart_core.specs.declared.need.Need.TheVariants.{Load, Store, Rmw, Ask, Unlock}
-use Rattle.flat_model.specs.Offered.{offered}
+use Rattle.hart_core.specs.declared.found.Found.{Found}
+use Rattle.hart_core.specs.declared.found.Found.TheVariants.{This}
+use Rattle.dash_base.specs.declared.need.Need.{Need}
+use Rattle.dash_base.specs.declared.need.Need.TheVariants.{Load, Store, Rmw, Ask, Unlock}
+use Rattle.dash_event.specs.Offered.{offered}
 use Rattle.flat_model.specs.State.{opening_state}
-use Rattle.flat_model.specs.Step.{is_of_memory}
+use Rattle.dash_event.specs.Effects.{is_of_memory}
 use Rattle.flat_model.specs.Run.{IsSequentialRun}
 use Rattle.flat_model.specs.Order.{IsAccessAt}
 use Rattle.flat_model.specs.LastBefore.{IsLockBefore}

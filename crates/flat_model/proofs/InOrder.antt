@@ -4,30 +4,30 @@ use Rattle.dash_base.specs.declared.ops.AmoOp.TheVariants.{Sc}
 use Rattle.dash_base.specs.declared.topology.Topology.{Topology}
 use Rattle.elf_load.specs.Image.{ImageView}
 use Rattle.dash_event.specs.declared.step_record.StepRecord.{StepRecord}
-use Rattle.hart_core.specs.declared.need.Need.{Need}
-use Rattle.hart_core.specs.declared.need.Need.TheVariants.{Rmw}
-use Rattle.hart_core.proofs.Unique.{one_need, needs_of}
-use Rattle.flat_model.specs.Offered.{offered}
+use Rattle.dash_base.specs.declared.need.Need.{Need}
+use Rattle.dash_base.specs.declared.need.Need.TheVariants.{Rmw}
+use Rattle.hart_core.proofs.LawsOffered.{one_need, needs_of}
+use Rattle.dash_event.specs.Offered.{offered}
 use Rattle.flat_model.specs.State.{FlatState}
 use Rattle.flat_model.specs.Step.{IsPossible, content, record_of, IsFlatStep}
-use Rattle.flat_model.specs.Run.{AreSteps}
+use Rattle.flat_model.specs.Run.{AreFlatSteps}
 use Rattle.flat_model.specs.InOrder.{SucceedsWhereItCan, IsTurn, AreTurns}
 use Rattle.flat_model.proofs.Steps.{one_new, of_its_hart, no_step_of}
 
 -- a turn, and steps after it
 turn_and_steps : (image : ImageView) (t : Topology) (old : FlatState) (h : ℕ) (turn : List StepRecord) (mid : FlatState) → IsTurn image t old h turn mid
-    → (rest : List StepRecord) (new : FlatState) → AreSteps image t mid rest new → AreSteps image t old (turn ++ rest) new
-turn_and_steps image t old h [] mid turn rest new steps = subst (λ s. AreSteps image t s rest new) turn.1 steps
+    → (rest : List StepRecord) (new : FlatState) → AreFlatSteps image t mid rest new → AreFlatSteps image t old (turn ++ rest) new
+turn_and_steps image t old h [] mid turn rest new steps = subst (λ s. AreFlatSteps image t s rest new) turn.1 steps
 turn_and_steps image t old h (r ∷ []) mid turn rest new steps =
     (mid, subst (λ g. IsFlatStep image t old g r mid) (sym (of_its_hart image t old h r mid turn.0)) turn.0, steps)
 turn_and_steps image t old h (r ∷ q ∷ rs) mid turn rest new steps = absurd turn
 
 pub turns_are_steps : (image : ImageView) (t : Topology) (old : FlatState) (hs : List ℕ) (rs : List StepRecord) (new : FlatState)
-    → AreTurns image t old hs rs new → AreSteps image t old rs new
-turns_are_steps image t old [] rs new turns = subst (λ x. AreSteps image t old x new) (sym turns.0) turns.1
+    → AreTurns image t old hs rs new → AreFlatSteps image t old rs new
+turns_are_steps image t old [] rs new turns = subst (λ x. AreFlatSteps image t old x new) (sym turns.0) turns.1
 turns_are_steps image t old (h ∷ hs) rs new turns =
     let rest = turns_are_steps image t turns.2 hs turns.1 new turns.5 in
-    subst (λ x. AreSteps image t old x new) (sym turns.3) (turn_and_steps image t old h turns.0 turns.2 turns.4 turns.1 new rest)
+    subst (λ x. AreFlatSteps image t old x new) (sym turns.3) (turn_and_steps image t old h turns.0 turns.2 turns.4 turns.1 new rest)
 
 -- a need is recorded in one way, where an SC succeeds wherever it can
 same_record : (s : FlatState) (h n : ℕ) (need : Need) (ok ok' : Bool) → IsPossible s h need ok → IsPossible s h need ok'

@@ -8,18 +8,19 @@ use Rattle.dash_event.specs.declared.access.Access.{Access}
 use Rattle.dash_event.specs.declared.step_record.StepRecord.{StepRecord}
 use Rattle.dash_event.specs.declared.step_record.StepRecord.TheVariants as step
 use Rattle.hart_core.specs.HartState.{HartState}
-use Rattle.hart_core.specs.Opening.{hart_count}
+use Rattle.dash_base.specs.Places.{hart_count}
 use Rattle.flat_model.specs.State.{FlatState}
-use Rattle.flat_model.specs.Step.{hart_of, IsFlatStep}
-use Rattle.flat_model.specs.Run.{AreSteps, IsSequentialRun}
+use Rattle.flat_model.specs.Step.{IsFlatStep}
+use Rattle.dash_event.specs.Effects.{hart_of}
+use Rattle.flat_model.specs.Run.{AreFlatSteps, IsSequentialRun}
 use Rattle.flat_model.specs.Race.{IsRace}
 use Rattle.flat_model.specs.Order.{IsAt, IsAccessAt}
-use Rattle.hart_core.proofs.Needed.{in_budget}
+use Rattle.hart_core.proofs.LawsOffered.{in_budget}
 use Rattle.flat_model.proofs.Retired.{retires_no_less, access_retires}
 use Rattle.flat_model.proofs.Offers.{is_offered, number_is}
 
 pub hart_in_range : (image : ImageView) (t : Topology) (old : FlatState) (rs : List StepRecord) (new : FlatState)
-    → AreSteps image t old rs new → (i : ℕ) (r : StepRecord) → IsAt rs i r → (hart_of r).0 < hart_count t
+    → AreFlatSteps image t old rs new → (i : ℕ) (r : StepRecord) → IsAt rs i r → (hart_of r).0 < hart_count t
 hart_in_range image t old [] new steps i r at = absurd cc
 hart_in_range image t old (x ∷ rs) new steps zero r at =
     let same : x ≡ r = cc in subst (λ y. (hart_of y).0 < hart_count t) same steps.1.in_range
@@ -40,7 +41,7 @@ within_budget_on image t old r new s within g =
     subst (λ x. (x.harts g).retired ≤ t.budget) (sym s.after) chosen
 
 pub within_budget : (image : ImageView) (t : Topology) (old : FlatState) (rs : List StepRecord) (new : FlatState)
-    → AreSteps image t old rs new → ((g : ℕ) → (old.harts g).retired ≤ t.budget) → (g : ℕ) → (new.harts g).retired ≤ t.budget
+    → AreFlatSteps image t old rs new → ((g : ℕ) → (old.harts g).retired ≤ t.budget) → (g : ℕ) → (new.harts g).retired ≤ t.budget
 within_budget image t old [] new steps within g = subst (λ x. (x.harts g).retired ≤ t.budget) (sym steps) (within g)
 within_budget image t old (r ∷ rs) new steps within g =
     within_budget image t steps.0 rs new steps.2 (within_budget_on image t old r steps.0 steps.1 within) g
@@ -84,7 +85,7 @@ at_head image t old x new a s same = subst (λ y. IsFlatStep image t old (hart_o
 
 -- the number of an access is above what its hart had retired
 number_above : (image : ImageView) (t : Topology) (old : FlatState) (rs : List StepRecord) (new : FlatState)
-    → AreSteps image t old rs new → (i : ℕ) (a : Access) → IsAccessAt rs i a → (old.harts a.hart.0).retired < a.number
+    → AreFlatSteps image t old rs new → (i : ℕ) (a : Access) → IsAccessAt rs i a → (old.harts a.hart.0).retired < a.number
 number_above image t old [] new steps i a at = absurd cc
 number_above image t old (x ∷ rs) new steps zero a at =
     let same : x ≡ step.Access a = cc in
@@ -96,7 +97,7 @@ number_above image t old (x ∷ rs) new steps (suc i) a at =
     omega arith
 
 pub numbers_rise : (image : ImageView) (t : Topology) (old : FlatState) (rs : List StepRecord) (new : FlatState)
-    → AreSteps image t old rs new → (i j : ℕ) (a b : Access) → IsAccessAt rs i a → IsAccessAt rs j b → i < j → a.hart ≡ b.hart → a.number < b.number
+    → AreFlatSteps image t old rs new → (i j : ℕ) (a b : Access) → IsAccessAt rs i a → IsAccessAt rs j b → i < j → a.hart ≡ b.hart → a.number < b.number
 numbers_rise image t old [] new steps i j a b at_i at_j before same = absurd cc
 numbers_rise image t old (x ∷ rs) new steps i zero a b at_i at_j before same = absurd (omega arith)
 numbers_rise image t old (x ∷ rs) new steps zero (suc j) a b at_i at_j before same =

@@ -19,3 +19,4 @@ pub mod MachineLists
 pub mod MachineNeeds
 pub mod MachineSteps
 pub mod MachineRuns
+pub mod LawsOffered

@@ -7,11 +7,12 @@ use Rattle.dash_event.specs.declared.access.Access.{Access}
 use Rattle.dash_event.specs.declared.access.Op.TheVariants as op
 use Rattle.dash_event.specs.declared.step_record.StepRecord.{StepRecord}
 use Rattle.dash_event.specs.declared.step_record.StepRecord.TheVariants as step
-use Rattle.hart_core.specs.declared.need.Need.{Need}
-use Rattle.hart_core.specs.declared.need.Need.TheVariants.{Load, Store, Rmw, Ask, Unlock}
+use Rattle.dash_base.specs.declared.need.Need.{Need}
+use Rattle.dash_base.specs.declared.need.Need.TheVariants.{Load, Store, Rmw, Ask, Unlock}
 use Rattle.flat_model.specs.State.{FlatState}
-use Rattle.flat_model.specs.Offered.{load_op, offered}
-use Rattle.flat_model.specs.Step.{IsPossible, content, is_of_memory, lock_after}
+use Rattle.dash_event.specs.Offered.{load_op, offered}
+use Rattle.flat_model.specs.Step.{IsPossible, content}
+use Rattle.dash_event.specs.Effects.{is_of_memory, lock_after}
 use Rattle.flat_model.specs.LastBefore.{IsLockAccess}
 use Rattle.flat_model.proofs.Values.{Leaves, Keeps}
 use Rattle.flat_model.proofs.Writes.{same_access}

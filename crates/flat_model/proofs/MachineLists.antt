@@ -8,10 +8,11 @@ use Rattle.dash_base.specs.declared.topology.Topology.{Topology}
 use Rattle.elf_load.specs.Image.{ImageView}
 use Rattle.dash_event.specs.declared.step_record.StepRecord.{StepRecord}
 use Rattle.hart_core.specs.HartState.{HartState}
-use Rattle.hart_core.specs.Opening.{hart_count}
+use Rattle.dash_base.specs.Places.{hart_count}
 use Rattle.flat_model.specs.State.{FlatState}
-use Rattle.flat_model.specs.Step.{hart_of, state_after, word_after, lock_after, reservation_after}
-use Rattle.flat_model.specs.Held.{MachineView, IsHeld, IsSized}
+use Rattle.flat_model.specs.Step.{flat_state_after, reservation_after}
+use Rattle.dash_event.specs.Effects.{hart_of, word_after, lock_after}
+use Rattle.flat_model.specs.Represents.{MachineView, Represents, IsSized}
 use Rattle.flat_model.specs.Change.{IsCarriedOut}
 
 -- ---- lists made from a function of the place
@@ -66,7 +67,7 @@ set_others now was n y d k others above =
 
 -- ---- what lists that hold a state have
 
-pub hart_is : (t : Topology) (m : MachineView) (s : FlatState) (h : ℕ) → IsHeld t m s → h < hart_count t → slice_get m.harts h ≡ Some (s.harts h)
+pub hart_is : (t : Topology) (m : MachineView) (s : FlatState) (h : ℕ) → Represents t m s → h < hart_count t → slice_get m.harts h ≡ Some (s.harts h)
 hart_is t m s h held inside =
     let f : ℕ → HartState = λ k. s.harts k in
     let count : length (map f (range_with_len 0 (hart_count t))) ≡ hart_count t = length-map-range_with_len f 0 (hart_count t) in
@@ -74,13 +75,13 @@ hart_is t m s h held inside =
     ∙ slice_get-get_or (map f (range_with_len 0 (hart_count t))) h (s.harts h) (omega (arith, count, inside))
     ∙ ap Some (get_or-map-range_with_len f 0 (hart_count t) h h (s.harts h) inside (omega arith))
 
-pub reservation_is : (t : Topology) (m : MachineView) (s : FlatState) (h : ℕ) (d : Option ℕ) → IsHeld t m s → h < hart_count t
+pub reservation_is : (t : Topology) (m : MachineView) (s : FlatState) (h : ℕ) (d : Option ℕ) → Represents t m s → h < hart_count t
     → get_or m.reservations h d ≡ s.reservations h
 reservation_is t m s h d held inside =
     ap (λ xs. get_or xs h d) held.reservations_are
     ∙ get_or-map-range_with_len (λ k. s.reservations k) 0 (hart_count t) h h d inside (omega arith)
 
-pub held_sized : (t : Topology) (m : MachineView) (s : FlatState) → IsHeld t m s → IsSized t m
+pub held_sized : (t : Topology) (m : MachineView) (s : FlatState) → Represents t m s → IsSized t m
 held_sized t m s held = record {
   harts_count = ap length held.harts_are ∙ length-map-range_with_len (λ k. s.harts k) 0 (hart_count t);
   reservations_count = ap length held.reservations_are ∙ length-map-range_with_len (λ k. s.reservations k) 0 (hart_count t);
@@ -91,8 +92,8 @@ held_sized t m s held = record {
 -- ---- after a step
 
 pub held_after : (image : ImageView) (t : Topology) (h : ℕ) (r : StepRecord) (old new : MachineView) (s : FlatState)
-    → h ≡ (hart_of r).0 → h < hart_count t → IsHeld t old s → (carried : IsCarriedOut image t h r old new)
-    → IsHeld t new (state_after s r carried.hart.after)
+    → h ≡ (hart_of r).0 → h < hart_count t → Represents t old s → (carried : IsCarriedOut image t h r old new)
+    → Represents t new (flat_state_after s r carried.hart.after)
 held_after image t h r old new s own inside held carried = record {
   harts_are =
       carried.hart.now ∙ ap (λ xs. slice_set xs h carried.hart.after) held.harts_are

@@ -4,13 +4,14 @@ use Rattle.dash_base.specs.declared.id.WordAddr.{WordAddr}
 use Rattle.dash_base.specs.declared.ops.AmoOp.TheVariants.{Sc}
 use Rattle.dash_base.specs.declared.topology.Topology.{Topology}
 use Rattle.hart_core.specs.Access.{IsProper}
-use Rattle.hart_core.specs.declared.need.Need.{Need}
-use Rattle.hart_core.specs.declared.need.Need.TheVariants.{Load, Rmw, Ask}
+use Rattle.dash_base.specs.declared.need.Need.{Need}
+use Rattle.dash_base.specs.declared.need.Need.TheVariants.{Load, Rmw, Ask}
 use Rattle.flat_model.specs.State.{FlatState}
-use Rattle.flat_model.specs.Offered.{offered}
-use Rattle.flat_model.specs.Step.{IsPossible, MaySucceed, hart_of, record_of}
+use Rattle.dash_event.specs.Offered.{offered}
+use Rattle.flat_model.specs.Step.{IsPossible, MaySucceed, record_of}
+use Rattle.dash_event.specs.Effects.{hart_of}
 use Rattle.flat_model.specs.Driven.{is_reserved, succeeds_on}
-use Rattle.flat_model.specs.Change.{FitsRecord, asks_in_vain}
+use Rattle.flat_model.specs.Change.{FitsRecord, is_blocked}
 
 may_succeed : (reserved : Option ℕ) (word : WordAddr) → MaySucceed reserved word Sc (is_reserved reserved word.0)
 may_succeed None word = tt
@@ -19,7 +20,7 @@ may_succeed (Some reserved) word = grind arith
 is_free : (n : ℕ) → not (n == 0) ≡ false → n ≡ 0
 is_free n test = grind arith
 
-pub possible : (s : FlatState) (h : ℕ) (need : Need) → asks_in_vain s need ≡ false → IsPossible s h need (succeeds_on s h need)
+pub possible : (s : FlatState) (h : ℕ) (need : Need) → is_blocked s need ≡ false → IsPossible s h need (succeeds_on s h need)
 possible s h (Rmw word Sc operand labels) clear = may_succeed (s.reservations h) word
 possible s h (Rmw word amo operand labels) clear = tt
 possible s h (Ask word value) clear = is_free (s.locks word.0) clear

@@ -6,9 +6,10 @@ use Rattle.std.specs.List.{range_with_len}
 use Rattle.dash_base.specs.declared.topology.Topology.{Topology}
 use Rattle.elf_load.specs.Image.{ImageView, opening_word, opening_words, words_among}
 use Rattle.elf_load.specs.declared.memory_map.MemoryMap.{MemoryMap}
-use Rattle.hart_core.specs.Opening.{hart_count, opening_hart}
+use Rattle.hart_core.specs.Opening.{opening_hart}
+use Rattle.dash_base.specs.Places.{hart_count}
 use Rattle.flat_model.specs.State.{opening_state}
-use Rattle.flat_model.specs.Held.{MachineView, IsHeld}
+use Rattle.flat_model.specs.Represents.{MachineView, Represents}
 
 pub opening_each : (image : ImageView) (m : MemoryMap) (i : ℕ) → i < length (opening_words image m)
     → slice_index (opening_words image m) i ≡ opening_word image (m.base + 4 * i)
@@ -29,7 +30,7 @@ pub opening_held : (image : ImageView) (t : Topology) (m : MachineView)
     → 4 * length m.memory ≡ t.memory
     → ((i : ℕ) → i < length m.memory → slice_index m.memory i ≡ opening_word image (t.base + 4 * i))
     → m.locks ≡ replicate t.locks 0
-    → IsHeld t m (opening_state image t)
+    → Represents t m (opening_state image t)
 opening_held image t m harts reservations whole each locks = record {
   harts_are = harts;
   reservations_are = reservations;

@@ -8,12 +8,12 @@ use Rattle.dash_base.specs.declared.topology.Topology.{Topology}
 use Rattle.elf_load.specs.Image.{ImageView}
 use Rattle.dash_event.specs.declared.access.Access.{Access}
 use Rattle.dash_event.specs.declared.step_record.StepRecord.{StepRecord}
-use Rattle.hart_core.specs.declared.need.Need.{Need}
+use Rattle.dash_base.specs.declared.need.Need.{Need}
 use Rattle.flat_model.specs.State.{FlatState, opening_state}
 use Rattle.flat_model.specs.Step.{console_after}
-use Rattle.flat_model.specs.Run.{IsStanding}
+use Rattle.flat_model.specs.Run.{IsFlatStopped}
 use Rattle.flat_model.specs.Driven.{opens, passes, steps}
-use Rattle.flat_model.specs.Held.{MachineView, IsHeld, IsDone}
+use Rattle.flat_model.specs.Represents.{MachineView, Represents, IsDone}
 use Rattle.flat_model.specs.FlatEnd.{access_of, accesses_of, IsFlatEnd, IsReached}
 
 accesses_push : (rs : List StepRecord) (r : StepRecord) → accesses_of (rs ++ r ∷ []) ≡ accesses_of rs ++ access_of r
@@ -21,7 +21,7 @@ accesses_push [] r = grind (arith, common_steps)
 accesses_push (x ∷ rs) r =
     ap (λ xs. access_of x ++ xs) (accesses_push rs r) ∙ sym (append_assoc (access_of x) (accesses_of rs) (access_of r))
 
-pub begun : (image : ImageView) (t : Topology) (m : MachineView) (accesses : List Access) (console : List ℕ) → IsHeld t m (opening_state image t)
+pub begun : (image : ImageView) (t : Topology) (m : MachineView) (accesses : List Access) (console : List ℕ) → Represents t m (opening_state image t)
     → accesses ≡ [] → console ≡ [] → IsReached image t [] m accesses console
 begun image t m accesses console held no_access no_byte = record {
   records = [];
@@ -33,7 +33,7 @@ begun image t m accesses console held no_access no_byte = record {
 }
 
 pub passed : (image : ImageView) (t : Topology) (order : List ℕ) (h : ℕ) (m after : MachineView) (accesses : List Access) (console : List ℕ)
-    → after ≡ m → ((s : FlatState) → IsHeld t m s → IsStanding image t s h)
+    → after ≡ m → ((s : FlatState) → Represents t m s → IsFlatStopped image t s h)
     → IsReached image t order m accesses console → IsReached image t (order ++ h ∷ []) after accesses console
 passed image t order h m after accesses console same idle reached = record {
   records = reached.records;
@@ -41,12 +41,12 @@ passed image t order h m after accesses console same idle reached = record {
   driven = passes h reached.driven (idle reached.state reached.held);
   accesses_are = reached.accesses_are;
   console_is = reached.console_is;
-  held = (let held_by : MachineView → Type 0 = λ v. IsHeld t v reached.state in subst held_by (sym same) reached.held);
+  held = (let held_by : MachineView → Type 0 = λ v. Represents t v reached.state in subst held_by (sym same) reached.held);
 }
 
 pub stepped : (image : ImageView) (t : Topology) (order : List ℕ) (h : ℕ) (m after : MachineView) (need : Need) (pc : ℕ) (r : StepRecord)
     → (accesses accesses' : List Access) (console console' : List ℕ)
-    → ((s : FlatState) → IsHeld t m s → IsDone image t s h need pc r after)
+    → ((s : FlatState) → Represents t m s → IsDone image t s h need pc r after)
     → accesses' ≡ accesses ++ access_of r → console' ≡ console_after r console
     → IsReached image t order m accesses console → IsReached image t (order ++ h ∷ []) after accesses' console'
 stepped image t order h m after need pc r accesses accesses' console console' done more_accesses more_console reached =

@@ -12,26 +12,27 @@ use Rattle.dash_event.specs.declared.step_record.StepRecord.{StepRecord}
 use Rattle.hart_core.specs.Access.{IsProper}
 use Rattle.hart_core.specs.HartState.{HartState, can_go_on}
 use Rattle.hart_core.specs.Meaning.{Needs, NeedsIf, IsNext, Does}
-use Rattle.hart_core.specs.Opening.{hart_count}
-use Rattle.hart_core.specs.declared.need.Need.{Need}
-use Rattle.hart_core.specs.declared.need.Need.TheVariants.{Ask, Rest, Rmw}
+use Rattle.dash_base.specs.Places.{hart_count}
+use Rattle.dash_base.specs.declared.need.Need.{Need}
+use Rattle.dash_base.specs.declared.need.Need.TheVariants.{Ask, Rest, Rmw}
 use Rattle.flat_model.specs.State.{FlatState}
-use Rattle.flat_model.specs.Offered.{offered}
-use Rattle.flat_model.specs.Step.{hart_of, record_of, answer_of, content, state_after}
-use Rattle.flat_model.specs.Run.{IsWaiting, IsStanding}
+use Rattle.dash_event.specs.Offered.{offered}
+use Rattle.flat_model.specs.Step.{record_of, content, flat_state_after}
+use Rattle.dash_event.specs.Effects.{hart_of, answer_of}
+use Rattle.flat_model.specs.Run.{IsBlocked, IsFlatStopped}
 use Rattle.flat_model.specs.Driven.{succeeds_on}
-use Rattle.flat_model.specs.Held.{MachineView, IsHeld, IsSized, IsDone}
-use Rattle.flat_model.specs.Change.{FitsRecord, IsCarriedOut, IsDue, asks_in_vain, is_granted}
+use Rattle.flat_model.specs.Represents.{MachineView, Represents, IsSized, IsDone}
+use Rattle.flat_model.specs.Change.{FitsRecord, IsCarriedOut, IsDue, is_blocked, can_succeed}
 use Rattle.flat_model.proofs.MachineLists.{hart_is, reservation_is, held_after}
 use Rattle.flat_model.proofs.MachineNeeds.{possible, own_record, fits}
 
 -- the hart that was found at a place is that of the state
-same_hart : (t : Topology) (m : MachineView) (s : FlatState) (h : ℕ) (x : HartState) → IsHeld t m s → h < hart_count t
+same_hart : (t : Topology) (m : MachineView) (s : FlatState) (h : ℕ) (x : HartState) → Represents t m s → h < hart_count t
     → slice_get m.harts h ≡ Some x → x ≡ s.harts h
 same_hart t m s h x held inside found = let is = hart_is t m s h held inside in cc
 
 pub done_from : (image : ImageView) (t : Topology) (m after : MachineView) (h : ℕ) (need : Need) (pc : ℕ) (r : StepRecord) (s : FlatState)
-    → h < hart_count t → IsDue image t m h need pc r → IsCarriedOut image t h r m after → IsHeld t m s
+    → h < hart_count t → IsDue image t m h need pc r → IsCarriedOut image t h r m after → Represents t m s
     → IsDone image t s h need pc r after
 done_from image t m after h need pc r s inside due carried held =
     let same : due.hart ≡ s.harts h = same_hart t m s h due.hart held inside due.is_hart in
@@ -42,7 +43,7 @@ done_from image t m after h need pc r s inside due carried held =
     due.recorded s held ∙ ap (λ x. record_of h need (offered h (x.retired + 1) need (content s need) (succeeds_on s h need))) same in
     let own : h ≡ (hart_of r).0 = own_record h _ need _ _ ∙ ap (λ x. (hart_of x).0) (sym recorded) in
     record {
-      new = state_after s r carried.hart.after;
+      new = flat_state_after s r carried.hart.after;
       does = record {
         step = record {
           in_range = inside;
@@ -63,7 +64,7 @@ done_from image t m after h need pc r s inside due carried held =
 
 -- a hart that rests is idle, and so is one that asks in vain
 pub rests_idle : (image : ImageView) (t : Topology) (m : MachineView) (h : ℕ) (x : HartState) (s : FlatState)
-    → h < hart_count t → slice_get m.harts h ≡ Some x → can_go_on t x ≡ false → IsHeld t m s → IsStanding image t s h
+    → h < hart_count t → slice_get m.harts h ≡ Some x → can_go_on t x ≡ false → Represents t m s → IsFlatStopped image t s h
 rests_idle image t m h x s inside found rests held =
     inl (ap (can_go_on t) (sym (same_hart t m s h x held inside found)) ∙ rests)
 
@@ -71,7 +72,7 @@ is_taken : (n : ℕ) → not (n == 0) ≡ true → n ≡ 0 → ⊥
 is_taken n test zero = grind arith
 
 waits : (image : ImageView) (t : Topology) (h : ℕ) (s : FlatState) (need : Need) → Needs image t (s.harts h) need
-    → asks_in_vain s need ≡ true → IsWaiting image t s h
+    → is_blocked s need ≡ true → IsBlocked image t s h
 waits image t h s (Ask word value) needs vain = record {
   word = word;
   value = value;
@@ -81,22 +82,22 @@ waits image t h s (Ask word value) needs vain = record {
 waits image t h s need needs vain = absurd (cc)
 
 pub waits_idle : (image : ImageView) (t : Topology) (m : MachineView) (h : ℕ) (x : HartState) (need : Need) (s : FlatState)
-    → h < hart_count t → slice_get m.harts h ≡ Some x → Needs image t x need → asks_in_vain s need ≡ true → IsHeld t m s → IsStanding image t s h
+    → h < hart_count t → slice_get m.harts h ≡ Some x → Needs image t x need → is_blocked s need ≡ true → Represents t m s → IsFlatStopped image t s h
 waits_idle image t m h x need s inside found needs vain held =
     let needs_of : HartState → Type 0 = λ y. Needs image t y need in
     inr (waits image t h s need (subst needs_of (same_hart t m s h x held inside found) needs) vain)
 
 -- an SC as the state lets it
 granted_on : (s : FlatState) (h : ℕ) (word : WordAddr) (op : AmoOp) (operand : ℕ) (labels : Labels)
-    → is_granted op (s.reservations h) word.0 ≡ succeeds_on s h (Rmw word op operand labels)
+    → can_succeed op (s.reservations h) word.0 ≡ succeeds_on s h (Rmw word op operand labels)
 granted_on s h word Sc operand labels = refl
 granted_on s h word op operand labels = refl
 
 pub granted_as : (t : Topology) (m : MachineView) (s : FlatState) (h : ℕ) (need : Need) (word : WordAddr) (op : AmoOp) (operand : ℕ) (labels : Labels) (x : Option ℕ) (result : Bool)
-    → IsHeld t m s → h < hart_count t → need ≡ Rmw word op operand labels → x ≡ get_or m.reservations h x
-    → result ≡ is_granted op x word.0 → result ≡ succeeds_on s h need
+    → Represents t m s → h < hart_count t → need ≡ Rmw word op operand labels → x ≡ get_or m.reservations h x
+    → result ≡ can_succeed op x word.0 → result ≡ succeeds_on s h need
 granted_as t m s h need word op operand labels x result held inside is at same =
-    same ∙ ap (λ r. is_granted op r word.0) (at ∙ reservation_is t m s h x held inside)
+    same ∙ ap (λ r. can_succeed op r word.0) (at ∙ reservation_is t m s h x held inside)
     ∙ granted_on s h word op operand labels ∙ ap (λ n. succeeds_on s h n) (sym is)
 
 goes_if : (goes : Bool) → (goes ≡ false → ⊥) → goes ≡ true

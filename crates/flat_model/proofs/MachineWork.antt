@@ -6,12 +6,12 @@ use Rattle.dash_base.specs.declared.end.End.TheVariants.{Trapped}
 use Rattle.dash_base.specs.declared.end.Trap.{Trap}
 use Rattle.dash_base.specs.declared.topology.Topology.{Topology}
 use Rattle.elf_load.specs.Image.{ImageView}
-use Rattle.hart_core.proofs.Needed.{retires}
+use Rattle.hart_core.proofs.LawsOffered.{retires}
 use Rattle.hart_core.specs.HartState.{HartState, can_go_on}
 use Rattle.hart_core.specs.Meaning.{Needs, NeedsIf, IsNext, Does}
-use Rattle.hart_core.specs.declared.need.Need.{Need}
-use Rattle.hart_core.specs.declared.need.Need.TheVariants.{Stop}
-use Rattle.flat_model.specs.Held.{work_left}
+use Rattle.dash_base.specs.declared.need.Need.{Need}
+use Rattle.dash_base.specs.declared.need.Need.TheVariants.{Stop}
+use Rattle.flat_model.specs.Represents.{work_left}
 
 pub is_next : (image : ImageView) (t : Topology) (h : HartState) (need : Need) → Needs image t h need → IsNext image t h need
 is_next image t h need needs =

@@ -2,7 +2,7 @@
 use Rattle.std.proofs.Common.{◌≡◌, ℕ, zero, suc, ◌+◌, ◌*◌, ◌/◌, ◌%◌, ◌^◌, ◌<◌, Bool, true, false, ◌∙◌, ap, arith}
 use Rattle.std.specs.Prelude.{if◌then◌else◌}
 use Rattle.dash_base.specs.Words.{byte_of_word, has_byte, merged_byte, merged}
-use Rattle.flat_model.specs.Offered.{all_bytes, bytes_under}
+use Rattle.dash_event.specs.Offered.{all_bytes, bytes_under}
 
 -- each byte of a word of four bytes
 byte_0 : (a b c d : ℕ) → a < 256 → (a + b * 256 + c * 65536 + d * 16777216) / 1 % 256 ≡ a

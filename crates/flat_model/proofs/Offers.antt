@@ -6,11 +6,12 @@ use Rattle.dash_base.specs.Words.{has_byte, byte_of_word}
 use Rattle.dash_event.specs.declared.access.Access.{Access}
 use Rattle.dash_event.specs.declared.access.Op.TheVariants as op
 use Rattle.dash_event.specs.declared.step_record.StepRecord.TheVariants as step
-use Rattle.hart_core.specs.declared.need.Need.{Need}
-use Rattle.hart_core.specs.declared.need.Need.TheVariants.{Put, Stop, Load, Store, Rmw, Ask, Unlock}
-use Rattle.flat_model.specs.Offered.{all_bytes, bytes_under, bare_access, load_op, offered}
+use Rattle.dash_base.specs.declared.need.Need.{Need}
+use Rattle.dash_base.specs.declared.need.Need.TheVariants.{Put, Stop, Load, Store, Rmw, Ask, Unlock}
+use Rattle.dash_event.specs.Offered.{all_bytes, bytes_under, bare_access, load_op, offered}
 use Rattle.flat_model.specs.State.{FlatState}
-use Rattle.flat_model.specs.Step.{hart_of, record_of, content, is_of_memory, IsFlatStep}
+use Rattle.flat_model.specs.Step.{record_of, content, IsFlatStep}
+use Rattle.dash_event.specs.Effects.{hart_of, is_of_memory}
 use Rattle.dash_base.specs.declared.topology.Topology.{Topology}
 use Rattle.elf_load.specs.Image.{ImageView}
 use Rattle.dash_event.specs.declared.access.Seen.TheVariants.{Nothing}

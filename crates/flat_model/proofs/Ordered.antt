@@ -5,7 +5,7 @@ use Rattle.dash_event.specs.declared.step_record.StepRecord.{StepRecord}
 use Rattle.dash_event.specs.declared.access.Access.{Access}
 use Rattle.dash_event.specs.declared.step_record.StepRecord.TheVariants as step
 use Rattle.flat_model.specs.Labels.{IsOrdinary}
-use Rattle.flat_model.specs.Step.{hart_of}
+use Rattle.dash_event.specs.Effects.{hart_of}
 use Rattle.flat_model.specs.Race.{IsRace}
 use Rattle.flat_model.specs.OrderLaws.{AreInConflict}
 use Rattle.flat_model.specs.Order.{AreOfOneHart, AreReleaseAndAcquire, HappensBefore, directly, chained}

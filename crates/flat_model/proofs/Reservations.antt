@@ -11,16 +11,17 @@ use Rattle.dash_event.specs.declared.access.Op.{Op}
 use Rattle.dash_event.specs.declared.access.Op.TheVariants as op
 use Rattle.dash_event.specs.declared.step_record.StepRecord.{StepRecord}
 use Rattle.dash_event.specs.declared.step_record.StepRecord.TheVariants as step
-use Rattle.hart_core.specs.declared.need.Need.{Need}
-use Rattle.hart_core.specs.declared.need.Need.TheVariants.{Load, Store, Rmw, Ask, Unlock}
-use Rattle.flat_model.specs.Offered.{offered}
+use Rattle.dash_base.specs.declared.need.Need.{Need}
+use Rattle.dash_base.specs.declared.need.Need.TheVariants.{Load, Store, Rmw, Ask, Unlock}
+use Rattle.dash_event.specs.Offered.{offered}
 use Rattle.flat_model.specs.State.{FlatState, opening_state}
-use Rattle.flat_model.specs.Step.{hart_of, is_of_memory, own_reservation, unless_of, reservation_after, IsPossible, IsFlatStep, content, record_of, answer_of, state_after}
+use Rattle.flat_model.specs.Step.{own_reservation, unless_of, reservation_after, IsPossible, IsFlatStep, content, record_of, flat_state_after}
+use Rattle.dash_event.specs.Effects.{hart_of, is_of_memory, answer_of}
 use Rattle.flat_model.specs.Run.{RunsTo, IsSequentialRun}
 use Rattle.flat_model.specs.Order.{IsAccessAt}
 use Rattle.flat_model.specs.LastBefore.{LastBefore}
 use Rattle.flat_model.specs.Reserved.{IsReserved}
-use Rattle.hart_core.proofs.Unique.{any_answer}
+use Rattle.hart_core.proofs.LawsOffered.{any_answer}
 use Rattle.flat_model.proofs.Steps.{of_its_hart}
 use Rattle.flat_model.proofs.Offers.{is_offered}
 use Rattle.flat_model.proofs.Values.{Leaves, Keeps, IsLeft, IsFirst, at_position, at_end}
@@ -290,7 +291,7 @@ cond_may_succeed image t rs old run h a new s cond_op reserve =
     let r : StepRecord = step.Access (record a { written = Some f.value }) in
     let k = any_answer image t (old.harts h) s.next s.need _ (answer_of r) s.does in (
       f.value,
-      state_after old r k.0,
+      flat_state_after old r k.0,
       record {
         in_range = s.in_range;
         need = s.need;

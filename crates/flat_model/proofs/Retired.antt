@@ -5,10 +5,10 @@ use Rattle.elf_load.specs.Image.{ImageView}
 use Rattle.dash_event.specs.declared.access.Access.{Access}
 use Rattle.hart_core.specs.HartState.{HartState}
 use Rattle.hart_core.specs.Meaning.{Does, retired_after}
-use Rattle.hart_core.specs.declared.need.Need.{Need}
-use Rattle.hart_core.specs.declared.need.Need.TheVariants.{Stop}
-use Rattle.hart_core.proofs.Needed.{retires}
-use Rattle.flat_model.specs.Offered.{offered}
+use Rattle.dash_base.specs.declared.need.Need.{Need}
+use Rattle.dash_base.specs.declared.need.Need.TheVariants.{Stop}
+use Rattle.hart_core.proofs.LawsOffered.{retires}
+use Rattle.dash_event.specs.Offered.{offered}
 
 -- no step takes back what was retired
 pub retires_no_less : (image : ImageView) (t : Topology) (h k : HartState) (need : Need) (answer : ℕ)

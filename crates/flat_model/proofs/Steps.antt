@@ -10,13 +10,14 @@ use Rattle.dash_event.specs.declared.step_record.StepRecord.{StepRecord}
 use Rattle.dash_event.specs.declared.step_record.StepRecord.TheVariants as step
 use Rattle.hart_core.specs.HartState.{can_go_on}
 use Rattle.hart_core.specs.Meaning.{Does}
-use Rattle.hart_core.specs.declared.need.Need.{Need}
-use Rattle.hart_core.specs.declared.need.Need.TheVariants.{Load, Store, Rmw, Ask, Unlock}
-use Rattle.hart_core.proofs.Unique.{one_need, needs_of, any_answer, one_after}
-use Rattle.flat_model.specs.Offered.{offered}
+use Rattle.dash_base.specs.declared.need.Need.{Need}
+use Rattle.dash_base.specs.declared.need.Need.TheVariants.{Load, Store, Rmw, Ask, Unlock}
+use Rattle.hart_core.proofs.LawsOffered.{one_need, needs_of, any_answer, one_after}
+use Rattle.dash_event.specs.Offered.{offered}
 use Rattle.flat_model.specs.State.{FlatState}
-use Rattle.flat_model.specs.Step.{hart_of, IsPossible, content, record_of, answer_of, state_after, IsFlatStep}
-use Rattle.flat_model.specs.Run.{AreSteps, IsStanding, IsCompleteRun}
+use Rattle.flat_model.specs.Step.{IsPossible, content, record_of, flat_state_after, IsFlatStep}
+use Rattle.dash_event.specs.Effects.{hart_of, answer_of}
+use Rattle.flat_model.specs.Run.{AreFlatSteps, IsFlatStopped, IsCompleteSequentialRun}
 use Rattle.flat_model.proofs.Offers.{is_offered, hart_of-record_of}
 
 -- a record makes one state of a state
@@ -28,18 +29,18 @@ one_new image t old h r a b s s' =
     let need : s.need ≡ s'.need = one_need image t (old.harts h) s.need s'.need needs needs' in
     let does : Does image t (old.harts h) s'.need (answer_of r) s.next = subst (λ n. Does image t (old.harts h) n (answer_of r) s.next) need s.does in
     let next : s.next ≡ s'.next = one_after image t (old.harts h) s.next s'.next s'.need _ does s'.does in
-    s.after ∙ ap (state_after old r) next ∙ sym s'.after
+    s.after ∙ ap (flat_state_after old r) next ∙ sym s'.after
 
 pub one_final : (image : ImageView) (t : Topology) (old : FlatState) (rs : List StepRecord) (a b : FlatState)
-    → AreSteps image t old rs a → AreSteps image t old rs b → a ≡ b
+    → AreFlatSteps image t old rs a → AreFlatSteps image t old rs b → a ≡ b
 one_final image t old [] a b steps steps' = steps ∙ sym steps'
 one_final image t old (r ∷ rs) a b steps steps' =
     let mid : steps'.0 ≡ steps.0 = one_new image t old (hart_of r).0 r steps'.0 steps.0 steps'.1 steps.1 in
-    one_final image t steps.0 rs a b steps.2 (subst (λ s. AreSteps image t s rs b) mid steps'.2)
+    one_final image t steps.0 rs a b steps.2 (subst (λ s. AreFlatSteps image t s rs b) mid steps'.2)
 
 -- the first steps of a list are steps
 pub first_steps : (image : ImageView) (t : Topology) (old : FlatState) (rs more : List StepRecord) (new : FlatState)
-    → AreSteps image t old (rs ++ more) new → (mid : FlatState) × AreSteps image t old rs mid
+    → AreFlatSteps image t old (rs ++ more) new → (mid : FlatState) × AreFlatSteps image t old rs mid
 first_steps image t old [] more new steps = (old, refl)
 first_steps image t old (r ∷ rs) more new steps =
     let rest = first_steps image t steps.0 rs more new steps.2 in (rest.0, (steps.0, steps.1, rest.1))
@@ -51,8 +52,8 @@ of_its_hart image t old h r new s =
     ap (λ x. (hart_of x).0) s.recorded ∙ hart_of-record_of h ((old.harts h).retired + 1) s.need _ s.succeeds
 
 -- steps and one more
-pub one_more_step : (image : ImageView) (t : Topology) (old : FlatState) (rs : List StepRecord) (mid : FlatState) → AreSteps image t old rs mid
-    → (h : ℕ) (r : StepRecord) (new : FlatState) → IsFlatStep image t mid h r new → AreSteps image t old (rs ++ r ∷ []) new
+pub one_more_step : (image : ImageView) (t : Topology) (old : FlatState) (rs : List StepRecord) (mid : FlatState) → AreFlatSteps image t old rs mid
+    → (h : ℕ) (r : StepRecord) (new : FlatState) → IsFlatStep image t mid h r new → AreFlatSteps image t old (rs ++ r ∷ []) new
 one_more_step image t old [] mid steps h r new s =
     let same : IsFlatStep image t old h r new = subst (λ x. IsFlatStep image t x h r new) steps s in
     (new, subst (λ g. IsFlatStep image t old g r new) (sym (of_its_hart image t old h r new same)) same, refl)
@@ -81,7 +82,7 @@ cond_may_fail image t old h a new s cond_op =
     let f = fails old h ((old.harts h).retired + 1) s.need s.succeeds a (is_offered h s.need _ a s.recorded) cond_op in
     let r : StepRecord = step.Access (record a { written = None }) in
     let k = any_answer image t (old.harts h) s.next s.need _ (answer_of r) s.does in (
-      state_after old r k.0,
+      flat_state_after old r k.0,
       record {
         in_range = s.in_range;
         need = s.need;
@@ -96,13 +97,13 @@ cond_may_fail image t old h a new s cond_op =
 
 -- a hart that rests, or that waits, does nothing
 pub no_step_of : (image : ImageView) (t : Topology) (old : FlatState) (h : ℕ) (r : StepRecord) (new : FlatState)
-    → IsStanding image t old h → ¬ IsFlatStep image t old h r new
+    → IsFlatStopped image t old h → ¬ IsFlatStep image t old h r new
 no_step_of image t old h r new (inl rests) s = let goes : can_go_on t (old.harts h) ≡ true = s.does.goes in cc
 no_step_of image t old h r new (inr w) s =
     let needs = needs_of image t (old.harts h) s.next s.need _ s.does in
     let need : s.need ≡ Ask w.word w.value = one_need image t (old.harts h) s.need (Ask w.word w.value) needs w.asks in
     w.taken (subst (λ n. IsPossible old h n s.succeeds) need s.possible)
 
-pub no_step_after : (image : ImageView) (t : Topology) (rs : List StepRecord) (final : FlatState) → IsCompleteRun image t rs final
+pub no_step_after : (image : ImageView) (t : Topology) (rs : List StepRecord) (final : FlatState) → IsCompleteSequentialRun image t rs final
     → (h : ℕ) (r : StepRecord) (new : FlatState) → ¬ IsFlatStep image t final h r new
 no_step_after image t rs final complete h r new s = no_step_of image t final h r new (complete.stands h s.in_range) s

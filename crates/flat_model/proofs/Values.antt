@@ -6,8 +6,9 @@ use Rattle.dash_event.specs.declared.access.Access.{Access}
 use Rattle.dash_event.specs.declared.step_record.StepRecord.{StepRecord}
 use Rattle.dash_event.specs.declared.step_record.StepRecord.TheVariants as step
 use Rattle.flat_model.specs.State.{FlatState}
-use Rattle.flat_model.specs.Step.{hart_of, IsFlatStep}
-use Rattle.flat_model.specs.Run.{AreSteps}
+use Rattle.flat_model.specs.Step.{IsFlatStep}
+use Rattle.dash_event.specs.Effects.{hart_of}
+use Rattle.flat_model.specs.Run.{AreFlatSteps}
 use Rattle.flat_model.specs.Order.{IsAt, IsAccessAt}
 use Rattle.flat_model.specs.LastBefore.{LastBefore, NoneBefore}
 
@@ -38,7 +39,7 @@ pub record StepAt (image : ImageView) (t : Topology) (r : StepRecord) : Type 0 w
   pub new : FlatState
   pub is_step : IsFlatStep image t old (hart_of r).0 r new
 
-pub step_at : (image : ImageView) (t : Topology) (old : FlatState) (rs : List StepRecord) (new : FlatState) → AreSteps image t old rs new
+pub step_at : (image : ImageView) (t : Topology) (old : FlatState) (rs : List StepRecord) (new : FlatState) → AreFlatSteps image t old rs new
     → (i : ℕ) (r : StepRecord) → IsAt rs i r → StepAt image t r
 step_at image t old [] new steps i r at = absurd cc
 step_at image t old (x ∷ rs) new steps zero r at =
@@ -95,7 +96,7 @@ module _ (image : ImageView) (t : Topology) (P : Access → Type 0) (V : Type 0)
       inr (record { none = record { none = none_shifted r rs i k.none f.none.none }; same = f.same ∙ k.same })
 
   -- the step at a position, and the value before it
-  pub at_position : (old : FlatState) (rs : List StepRecord) (new : FlatState) → AreSteps image t old rs new → (i : ℕ) (r : StepRecord) → IsAt rs i r
+  pub at_position : (old : FlatState) (rs : List StepRecord) (new : FlatState) → AreFlatSteps image t old rs new → (i : ℕ) (r : StepRecord) → IsAt rs i r
       → (s : StepAt image t r) × (IsLeft P V left rs i (value s.old) ⊎ IsFirst P V rs i (value old) (value s.old))
   at_position old [] new steps i r at = absurd cc
   at_position old (x ∷ rs) new steps zero r at =
@@ -108,7 +109,7 @@ module _ (image : ImageView) (t : Topology) (P : Access → Type 0) (V : Type 0)
       (rest.0, with_head old x steps.0 rs i (value rest.0.old) (each old x steps.0 steps.1) rest.1)
 
   -- the value after all steps of a list
-  pub at_end : (old : FlatState) (rs : List StepRecord) (new : FlatState) → AreSteps image t old rs new
+  pub at_end : (old : FlatState) (rs : List StepRecord) (new : FlatState) → AreFlatSteps image t old rs new
       → IsLeft P V left rs (length rs) (value new) ⊎ IsFirst P V rs (length rs) (value old) (value new)
   at_end old [] new steps = inr (record { none = record { none = λ j b at has before. (cc at) }; same = ap value steps })
   at_end old (x ∷ rs) new steps =

@@ -6,7 +6,7 @@ use Rattle.dash_base.specs.Words.{has_byte, byte_of_word}
 use Rattle.dash_event.specs.declared.access.Access.{Access}
 use Rattle.dash_event.specs.declared.step_record.StepRecord.{StepRecord}
 use Rattle.dash_event.specs.declared.step_record.StepRecord.TheVariants as step
-use Rattle.flat_model.specs.Step.{is_of_memory, written_over, word_after}
+use Rattle.dash_event.specs.Effects.{is_of_memory, written_over, word_after}
 use Rattle.flat_model.specs.LastBefore.{WritesByte}
 use Rattle.flat_model.proofs.Numbers.{byte-merged_in, byte-merged_out}
 use Rattle.flat_model.proofs.Values.{Leaves, Keeps}

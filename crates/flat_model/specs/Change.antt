@@ -10,23 +10,24 @@ use Rattle.dash_event.specs.declared.step_record.StepRecord.TheVariants as step
 use Rattle.hart_core.specs.HartState.{HartState}
 use Rattle.hart_core.specs.Access.{IsInMemory, IsLockWord}
 use Rattle.hart_core.specs.Meaning.{Needs, Does}
-use Rattle.hart_core.specs.declared.need.Need.{Need}
-use Rattle.hart_core.specs.declared.need.Need.TheVariants.{Ask}
+use Rattle.dash_base.specs.declared.need.Need.{Need}
+use Rattle.dash_base.specs.declared.need.Need.TheVariants.{Ask}
 use Rattle.flat_model.specs.State.{FlatState}
-use Rattle.flat_model.specs.Offered.{offered}
-use Rattle.flat_model.specs.Step.{content, record_of, answer_of, is_of_memory, word_after, lock_after, reservation_after}
+use Rattle.dash_event.specs.Offered.{offered}
+use Rattle.flat_model.specs.Step.{content, record_of, reservation_after}
+use Rattle.dash_event.specs.Effects.{answer_of, is_of_memory, word_after, lock_after}
 use Rattle.flat_model.specs.Driven.{is_reserved, succeeds_on}
-use Rattle.flat_model.specs.Held.{MachineView, IsHeld}
+use Rattle.flat_model.specs.Represents.{MachineView, Represents}
 
 -- whether a need asks for a lock word that is taken
-abbrev pub asks_in_vain : FlatState → Need → Bool
-asks_in_vain s (Ask word value) = not (s.locks word.0 == 0)
-asks_in_vain s need = false
+abbrev pub is_blocked : FlatState → Need → Bool
+is_blocked s (Ask word value) = not (s.locks word.0 == 0)
+is_blocked s need = false
 
 -- whether an operation is no SC, or the word is reserved
-abbrev pub is_granted : AmoOp → Option ℕ → ℕ → Bool
-is_granted Sc reserved word = is_reserved reserved word
-is_granted amo reserved word = true
+abbrev pub can_succeed : AmoOp → Option ℕ → ℕ → Bool
+can_succeed Sc reserved word = is_reserved reserved word
+can_succeed amo reserved word = true
 
 -- an access is of a word of memory, or of a lock word, as its operation says
 pub record FitsAccess (t : Topology) (a : Access) : Type 0 where
@@ -76,6 +77,6 @@ pub record IsDue (image : ImageView) (t : Topology) (m : MachineView) (h : ℕ) 
   pub is_hart : slice_get m.harts h ≡ Some hart
   pub needs : Needs image t hart need
   pub pc_is : pc ≡ hart.pc
-  pub possible : (s : FlatState) → IsHeld t m s → asks_in_vain s need ≡ false
-  pub recorded : (s : FlatState) → IsHeld t m s
+  pub possible : (s : FlatState) → Represents t m s → is_blocked s need ≡ false
+  pub recorded : (s : FlatState) → Represents t m s
       → r ≡ record_of h need (offered h (hart.retired + 1) need (content s need) (succeeds_on s h need))

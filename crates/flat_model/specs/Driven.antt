@@ -5,11 +5,11 @@ use Rattle.dash_base.specs.declared.ops.AmoOp.TheVariants.{Sc}
 use Rattle.dash_base.specs.declared.topology.Topology.{Topology}
 use Rattle.elf_load.specs.Image.{ImageView}
 use Rattle.dash_event.specs.declared.step_record.StepRecord.{StepRecord}
-use Rattle.hart_core.specs.declared.need.Need.{Need}
-use Rattle.hart_core.specs.declared.need.Need.TheVariants.{Rmw}
+use Rattle.dash_base.specs.declared.need.Need.{Need}
+use Rattle.dash_base.specs.declared.need.Need.TheVariants.{Rmw}
 use Rattle.flat_model.specs.State.{FlatState, opening_state}
 use Rattle.flat_model.specs.Step.{IsFlatStep}
-use Rattle.flat_model.specs.Run.{IsStanding}
+use Rattle.flat_model.specs.Run.{IsFlatStopped}
 
 -- whether a reservation is of a word
 abbrev pub is_reserved : Option ℕ → ℕ → Bool
@@ -30,7 +30,7 @@ pub record IsEagerStep (image : ImageView) (t : Topology) (old : FlatState) (h :
 pub data IsDriven (image : ImageView) (t : Topology) : List ℕ → List StepRecord → FlatState → Type 0 where
   opens : IsDriven image t [] [] (opening_state image t)
   passes : {hs : List ℕ} {rs : List StepRecord} {s : FlatState} (h : ℕ)
-      → IsDriven image t hs rs s → IsStanding image t s h → IsDriven image t (hs ++ h ∷ []) rs s
+      → IsDriven image t hs rs s → IsFlatStopped image t s h → IsDriven image t (hs ++ h ∷ []) rs s
   steps : {hs : List ℕ} {rs : List StepRecord} {s : FlatState} (h : ℕ) (r : StepRecord) (new : FlatState)
       → IsDriven image t hs rs s → IsEagerStep image t s h r new → IsDriven image t (hs ++ h ∷ []) (rs ++ r ∷ []) new
 

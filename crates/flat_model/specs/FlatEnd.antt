@@ -8,7 +8,7 @@ use Rattle.dash_event.specs.declared.step_record.StepRecord.TheVariants as step
 use Rattle.hart_core.specs.HartState.{HartState}
 use Rattle.flat_model.specs.State.{FlatState}
 use Rattle.flat_model.specs.Driven.{IsDriven}
-use Rattle.flat_model.specs.Held.{MachineView, IsHeld, harts_of}
+use Rattle.flat_model.specs.Represents.{MachineView, Represents, harts_of}
 
 -- the access of a record, if it has one
 abbrev pub access_of : StepRecord → List Access
@@ -36,4 +36,4 @@ pub record IsReached (image : ImageView) (t : Topology) (order : List ℕ) (m : 
   pub driven : IsDriven image t order records state
   pub accesses_are : accesses ≡ accesses_of records
   pub console_is : console ≡ state.console
-  pub held : IsHeld t m state
+  pub held : Represents t m state

@@ -7,7 +7,7 @@ use Rattle.dash_event.specs.declared.step_record.StepRecord.{StepRecord}
 use Rattle.dash_event.specs.declared.step_record.StepRecord.TheVariants as step
 use Rattle.flat_model.specs.State.{FlatState, opening_state}
 use Rattle.flat_model.specs.Step.{IsFlatStep}
-use Rattle.flat_model.specs.Run.{IsStanding}
+use Rattle.flat_model.specs.Run.{IsFlatStopped}
 
 -- an SC whose hart has reserved the word succeeds
 abbrev pub SucceedsWhereItCan : FlatState → StepRecord → Type 0
@@ -16,7 +16,7 @@ SucceedsWhereItCan s r = Unit {0}
 
 -- the turn of hart h: it stands and is passed over, or does its next instruction
 abbrev pub IsTurn : ImageView → Topology → FlatState → ℕ → List StepRecord → FlatState → Type 0
-IsTurn image t old h [] new = IsStanding image t old h × (new ≡ old)
+IsTurn image t old h [] new = IsFlatStopped image t old h × (new ≡ old)
 IsTurn image t old h (r ∷ []) new = IsFlatStep image t old h r new × SucceedsWhereItCan old r
 IsTurn image t old h (r ∷ q ∷ rs) new = ⊥
 

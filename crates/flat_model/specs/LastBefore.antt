@@ -4,7 +4,7 @@ use Rattle.dash_base.specs.Words.{has_byte, byte_of_word}
 use Rattle.elf_load.specs.Image.{ImageView, opening_word}
 use Rattle.dash_event.specs.declared.access.Access.{Access}
 use Rattle.dash_event.specs.declared.step_record.StepRecord.{StepRecord}
-use Rattle.flat_model.specs.Step.{is_of_memory}
+use Rattle.dash_event.specs.Effects.{is_of_memory}
 use Rattle.flat_model.specs.Order.{IsAccessAt}
 
 -- the last access before position i that has a property

@@ -1,5 +1,4 @@
 pub mod State
-pub mod Offered
 pub mod Step
 pub mod Run
 pub mod InOrder
@@ -12,6 +11,6 @@ pub mod Reserved
 pub mod OrderLaws
 pub mod RunLaws
 pub mod ReadLaws
-pub mod Held
+pub mod Represents
 pub mod Change
 pub mod FlatEnd

@@ -4,7 +4,7 @@ use Rattle.dash_event.specs.declared.access.Access.{Access}
 use Rattle.dash_event.specs.declared.step_record.StepRecord.{StepRecord}
 use Rattle.dash_event.specs.declared.step_record.StepRecord.TheVariants as step
 use Rattle.flat_model.specs.Labels.{IsRelease, IsAcquire}
-use Rattle.flat_model.specs.Step.{hart_of}
+use Rattle.dash_event.specs.Effects.{hart_of}
 
 -- the record at a position
 abbrev pub IsAt : List StepRecord → ℕ → StepRecord → Type 0

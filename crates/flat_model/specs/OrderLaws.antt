@@ -5,7 +5,7 @@ use Rattle.elf_load.specs.Image.{ImageView}
 use Rattle.dash_event.specs.declared.access.Access.{Access}
 use Rattle.dash_event.specs.declared.step_record.StepRecord.{StepRecord}
 use Rattle.dash_event.specs.declared.step_record.StepRecord.TheVariants as step
-use Rattle.hart_core.specs.Opening.{hart_count}
+use Rattle.dash_base.specs.Places.{hart_count}
 use Rattle.flat_model.specs.Labels.{IsOrdinary}
 use Rattle.flat_model.specs.Order.{IsAccessAt, AreOfOneHart, AreReleaseAndAcquire, HappensBefore}
 use Rattle.flat_model.specs.Race.{MasksMeet, IsRace, IsProperlyLabelled}

@@ -10,9 +10,10 @@ use Rattle.dash_event.specs.declared.access.Op.TheVariants as op
 use Rattle.dash_event.specs.declared.access.Seen.TheVariants.{Nothing}
 use Rattle.dash_event.specs.declared.step_record.StepRecord.{StepRecord}
 use Rattle.dash_event.specs.declared.step_record.StepRecord.TheVariants as step
-use Rattle.flat_model.specs.Offered.{all_bytes, bytes_under}
+use Rattle.dash_event.specs.Offered.{all_bytes, bytes_under}
 use Rattle.flat_model.specs.State.{FlatState}
-use Rattle.flat_model.specs.Step.{is_of_memory, IsFlatStep}
+use Rattle.flat_model.specs.Step.{IsFlatStep}
+use Rattle.dash_event.specs.Effects.{is_of_memory}
 use Rattle.flat_model.specs.Run.{RunsTo, IsSequentialRun}
 use Rattle.flat_model.specs.Order.{IsAccessAt}
 use Rattle.flat_model.specs.LastBefore.{IsByteBefore, IsLockBefore}

@@ -3,7 +3,7 @@ use Rattle.std.specs.Prelude.{◌≡◌, ◌≢◌, ◌<◌, ℕ, true, List, Is
 use Rattle.dash_event.specs.declared.access.Access.{Access}
 use Rattle.dash_event.specs.declared.access.Op.TheVariants as op
 use Rattle.dash_event.specs.declared.step_record.StepRecord.{StepRecord}
-use Rattle.flat_model.specs.Step.{is_of_memory}
+use Rattle.dash_event.specs.Effects.{is_of_memory}
 use Rattle.flat_model.specs.Order.{IsAccessAt}
 
 -- before position i stands an LR of the same hart and word, since which this hart did neither LR nor SC, and no other hart wrote the word

@@ -6,20 +6,21 @@ use Rattle.elf_load.specs.Image.{ImageView}
 use Rattle.dash_event.specs.declared.step_record.StepRecord.{StepRecord}
 use Rattle.hart_core.specs.HartState.{can_go_on}
 use Rattle.hart_core.specs.Meaning.{Needs}
-use Rattle.hart_core.specs.Opening.{hart_count}
-use Rattle.hart_core.specs.declared.need.Need.TheVariants.{Ask}
+use Rattle.dash_base.specs.Places.{hart_count}
+use Rattle.dash_base.specs.declared.need.Need.TheVariants.{Ask}
 use Rattle.flat_model.specs.State.{FlatState, opening_state}
-use Rattle.flat_model.specs.Step.{hart_of, IsFlatStep}
+use Rattle.flat_model.specs.Step.{IsFlatStep}
+use Rattle.dash_event.specs.Effects.{hart_of}
 
 -- steps one after another, with these records
-abbrev pub AreSteps : ImageView → Topology → FlatState → List StepRecord → FlatState → Type 0
-AreSteps image t old [] new = new ≡ old
-AreSteps image t old (r ∷ rs) new =
-    (mid : FlatState) × IsFlatStep image t old (hart_of r).0 r mid × AreSteps image t mid rs new
+abbrev pub AreFlatSteps : ImageView → Topology → FlatState → List StepRecord → FlatState → Type 0
+AreFlatSteps image t old [] new = new ≡ old
+AreFlatSteps image t old (r ∷ rs) new =
+    (mid : FlatState) × IsFlatStep image t old (hart_of r).0 r mid × AreFlatSteps image t mid rs new
 
 -- such steps lead from the opening state to a state
 abbrev pub RunsTo : ImageView → Topology → List StepRecord → FlatState → Type 0
-RunsTo image t rs s = AreSteps image t (opening_state image t) rs s
+RunsTo image t rs s = AreFlatSteps image t (opening_state image t) rs s
 
 -- a sequential run within the budgets, which may stop anywhere
 pub record IsSequentialRun (image : ImageView) (t : Topology) (rs : List StepRecord) : Type 0 where
@@ -27,17 +28,17 @@ pub record IsSequentialRun (image : ImageView) (t : Topology) (rs : List StepRec
   pub runs : RunsTo image t rs final
 
 -- hart h could go on, but its next instruction asks for a lock word that is not 0
-pub record IsWaiting (image : ImageView) (t : Topology) (s : FlatState) (h : ℕ) : Type 0 where
+pub record IsBlocked (image : ImageView) (t : Topology) (s : FlatState) (h : ℕ) : Type 0 where
   pub word : WordAddr
   pub value : ℕ
   pub asks : Needs image t (s.harts h) (Ask word value)
   pub taken : s.locks word.0 ≢ 0
 
 -- hart h has ended, has spent its budget, or waits
-abbrev pub IsStanding : ImageView → Topology → FlatState → ℕ → Type 0
-IsStanding image t s h = (can_go_on t (s.harts h) ≡ false) ⊎ IsWaiting image t s h
+abbrev pub IsFlatStopped : ImageView → Topology → FlatState → ℕ → Type 0
+IsFlatStopped image t s h = (can_go_on t (s.harts h) ≡ false) ⊎ IsBlocked image t s h
 
 -- a run at whose end each hart has ended, has spent its budget, or waits
-pub record IsCompleteRun (image : ImageView) (t : Topology) (rs : List StepRecord) (final : FlatState) : Type 0 where
+pub record IsCompleteSequentialRun (image : ImageView) (t : Topology) (rs : List StepRecord) (final : FlatState) : Type 0 where
   pub runs : RunsTo image t rs final
-  pub stands : (h : ℕ) → h < hart_count t → IsStanding image t final h
+  pub stands : (h : ℕ) → h < hart_count t → IsFlatStopped image t final h

@@ -4,10 +4,11 @@ use Rattle.dash_base.specs.declared.topology.Topology.{Topology}
 use Rattle.elf_load.specs.Image.{ImageView}
 use Rattle.dash_event.specs.declared.access.Access.{Access}
 use Rattle.dash_event.specs.declared.step_record.StepRecord.{StepRecord}
-use Rattle.hart_core.specs.Opening.{hart_count}
+use Rattle.dash_base.specs.Places.{hart_count}
 use Rattle.flat_model.specs.State.{FlatState}
-use Rattle.flat_model.specs.Step.{hart_of, IsFlatStep}
-use Rattle.flat_model.specs.Run.{RunsTo, IsSequentialRun, IsCompleteRun}
+use Rattle.flat_model.specs.Step.{IsFlatStep}
+use Rattle.dash_event.specs.Effects.{hart_of}
+use Rattle.flat_model.specs.Run.{RunsTo, IsSequentialRun, IsCompleteSequentialRun}
 use Rattle.flat_model.specs.InOrder.{IsRunInOrder}
 use Rattle.flat_model.specs.Driven.{IsDriven}
 use Rattle.flat_model.specs.Order.{IsAt, IsAccessAt}
@@ -25,7 +26,7 @@ RunsMayStop =
 -- no step follows a complete run
 abbrev pub CompleteRunsEnd : Type 0
 CompleteRunsEnd =
-    (image : ImageView) (t : Topology) (rs : List StepRecord) (final : FlatState) → IsCompleteRun image t rs final
+    (image : ImageView) (t : Topology) (rs : List StepRecord) (final : FlatState) → IsCompleteSequentialRun image t rs final
     → (h : ℕ) (r : StepRecord) (new : FlatState) → ¬ IsFlatStep image t final h r new
 
 -- a run with a step after it is a run

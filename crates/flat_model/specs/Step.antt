@@ -1,7 +1,5 @@
 -- One step of the sequential machine: a hart does its next instruction at once.
-use Rattle.std.specs.Prelude.{◌≡◌, ◌<◌, ℕ, ◌+◌, ◌==◌, Bool, true, false, not, ◌&&◌, if◌then◌else◌, List, [], ◌∷◌, ◌++◌, Option, Some, None, is_some, unwrap_or}
-use Rattle.dash_base.specs.Words.{merged}
-use Rattle.dash_base.specs.declared.id.HartId.{HartId}
+use Rattle.std.specs.Prelude.{◌≡◌, ◌<◌, ℕ, ◌+◌, ◌==◌, Bool, true, ◌&&◌, if◌then◌else◌, List, [], ◌∷◌, ◌++◌, Option, Some, None, is_some}
 use Rattle.dash_base.specs.declared.id.WordAddr.{WordAddr}
 use Rattle.dash_base.specs.declared.ops.AmoOp.{AmoOp}
 use Rattle.dash_base.specs.declared.ops.AmoOp.TheVariants.{Sc}
@@ -14,18 +12,12 @@ use Rattle.dash_event.specs.declared.step_record.StepRecord.{StepRecord}
 use Rattle.dash_event.specs.declared.step_record.StepRecord.TheVariants as step
 use Rattle.hart_core.specs.HartState.{HartState}
 use Rattle.hart_core.specs.Meaning.{Does}
-use Rattle.hart_core.specs.Opening.{hart_count}
-use Rattle.hart_core.specs.declared.need.Need.{Need}
-use Rattle.hart_core.specs.declared.need.Need.TheVariants.{Put, Stop, Load, Rmw, Ask, Unlock}
+use Rattle.dash_base.specs.Places.{hart_count}
+use Rattle.dash_base.specs.declared.need.Need.{Need}
+use Rattle.dash_base.specs.declared.need.Need.TheVariants.{Put, Stop, Load, Rmw, Ask, Unlock}
 use Rattle.flat_model.specs.State.{FlatState}
-use Rattle.flat_model.specs.Offered.{offered}
-
--- the hart that a record is of
-abbrev pub hart_of : StepRecord → HartId
-hart_of (step.Access a) = a.hart
-hart_of (step.Byte hart byte) = hart
-hart_of (step.Stopped hart end) = hart
-hart_of (step.Plain hart) = hart
+use Rattle.dash_event.specs.Offered.{offered}
+use Rattle.dash_event.specs.Effects.{hart_of, answer_of, is_of_memory, word_after, lock_after}
 
 -- an SC may always fail; it succeeds only where its hart has reserved the word
 abbrev pub MaySucceed : Option ℕ → WordAddr → AmoOp → Bool → Type 0
@@ -52,38 +44,6 @@ record_of h (Put byte) None = step.Byte (record { 0 = h }) byte
 record_of h (Stop end) None = step.Stopped (record { 0 = h }) end
 record_of h need None = step.Plain (record { 0 = h })
 
--- what an access answers its hart: what it read; or, for an SC, 0 where it wrote and 1 where it did not
-abbrev pub reply : Option ℕ → Option ℕ → ℕ
-reply (Some read) written = read
-reply None (Some written) = 0
-reply None None = 1
-
-abbrev pub answer_of : StepRecord → ℕ
-answer_of (step.Access a) = reply a.read a.written
-answer_of r = 0
-
--- whether an operation is one on memory, and not on a lock word
-abbrev pub is_of_memory : Op → Bool
-is_of_memory op.Ask = false
-is_of_memory op.Unlock = false
-is_of_memory kind = true
-
--- the word at an address of memory after a step: bytes that are written there replace those under their mask
-abbrev pub written_over : ℕ → ℕ → Option ℕ → ℕ
-written_over old mask None = old
-written_over old mask (Some value) = merged old mask value
-
-abbrev pub word_after : ℕ → StepRecord → ℕ → ℕ
-word_after address (step.Access a) old =
-    if is_of_memory a.op && (a.word.0 == address) then written_over old a.mask a.written else old
-word_after address r old = old
-
--- the lock word at an address after a step
-abbrev pub lock_after : ℕ → StepRecord → ℕ → ℕ
-lock_after address (step.Access a) old =
-    if not (is_of_memory a.op) && (a.word.0 == address) then unwrap_or a.written old else old
-lock_after address r old = old
-
 -- a hart's own reservation after its access: LR sets it, and an SC removes it
 abbrev pub own_reservation : Op → WordAddr → Option ℕ → Option ℕ
 own_reservation op.Reserve word old = Some word.0
@@ -108,8 +68,8 @@ console_after (step.Byte hart byte) old = old ++ byte ∷ []
 console_after r old = old
 
 -- the state after a step with this record, whose hart became `next`
-abbrev pub state_after : FlatState → StepRecord → HartState → FlatState
-state_after s r next = record {
+abbrev pub flat_state_after : FlatState → StepRecord → HartState → FlatState
+flat_state_after s r next = record {
   harts = λ h. if h == (hart_of r).0 then next else s.harts h;
   reservations = λ h. reservation_after h r (s.reservations h);
   memory = λ address. word_after address r (s.memory address);
@@ -126,4 +86,4 @@ pub record IsFlatStep (image : ImageView) (t : Topology) (old : FlatState) (h : 
   pub recorded : r ≡ record_of h need (offered h ((old.harts h).retired + 1) need (content old need) succeeds)
   pub next : HartState
   pub does : Does image t (old.harts h) need (answer_of r) next
-  pub after : new ≡ state_after old r next
+  pub after : new ≡ flat_state_after old r next

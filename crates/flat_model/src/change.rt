@@ -3,10 +3,11 @@ ghost use Rattle.std.specs.Prelude.{◌≡◌, ◌<◌, ◌+◌, ◌*◌, ◌≤
 ghost use Rattle.dash_event.specs.declared.step_record.StepRecord.TheVariants as step;
 ghost use Rattle.hart_core.specs.HartState.{HartState, can_go_on};
 ghost use Rattle.hart_core.specs.Access.{IsInMemory, IsLockWord};
-ghost use Rattle.flat_model.specs.Step.{is_of_memory, reservation_after};
+ghost use Rattle.flat_model.specs.Step.{reservation_after};
+ghost use Rattle.dash_event.specs.Effects.{is_of_memory};
 ghost use Rattle.flat_model.specs.Driven.{is_reserved};
-ghost use Rattle.flat_model.specs.Held.{work_left};
-ghost use Rattle.flat_model.specs.Change.{FitsAccess, IsHartAfter, AreReserved, AreWritten, AreLocked, is_granted};
+ghost use Rattle.flat_model.specs.Represents.{work_left};
+ghost use Rattle.flat_model.specs.Change.{FitsAccess, IsHartAfter, AreReserved, AreWritten, AreLocked, can_succeed};
 
 use dash_base::{AmoOp, Topology, WordAddr, merge};
 use dash_event::{Access, Op};
@@ -83,8 +84,8 @@ fn reservation_after(number: usize, access: &Access, old: Option<u32>) -> Option
 }
 
 /// Whether an operation is no SC, or its hart has reserved the word.
-pub fn is_granted(op: AmoOp, reservation: Option<u32>, word: WordAddr) -> bool
-    ensures { result ≡ is_granted op reservation word.0 }
+pub fn can_succeed(op: AmoOp, reservation: Option<u32>, word: WordAddr) -> bool
+    ensures { result ≡ can_succeed op reservation word.0 }
 {
     match op {
         AmoOp::Sc => is_reserved(reservation, word),

@@ -1,8 +1,8 @@
 //! Runs in which it is said which hart is next.
 ghost use Rattle.std.specs.Prelude.{◌≡◌, ◌<◌, ℕ, List, [], ◌∷◌, ◌++◌, map, All, IfOk, OnOk};
-ghost use Rattle.hart_core.specs.Opening.{hart_count};
+ghost use Rattle.dash_base.specs.Places.{hart_count};
 ghost use Rattle.flat_model.specs.Step.{console_after};
-ghost use Rattle.flat_model.specs.Held.{IsSized};
+ghost use Rattle.flat_model.specs.Represents.{IsSized};
 ghost use Rattle.flat_model.specs.FlatEnd.{access_of, IsFlatEnd, IsReached};
 
 use crate::machine::FlatMachine;

@@ -34,8 +34,8 @@ pub fn lone_conflicts_race()
     ensures { LoneConflictsRace }
 {}
 
-/// Each access has the values of its operation: loads read and write nothing, stores write and read
-/// nothing, an SC reads nothing, and any other operation does both.
+/// Each access has the values of its operation: a load reads and does not write, a store writes
+/// and does not read, nor does an SC, and any other operation does both.
 pub fn accesses_have_their_values()
     ensures { AccessesHaveTheirValues }
 {}

@@ -1,7 +1,7 @@
 //! All harts over one memory, of which one at a time does an instruction.
 
 use crate::change::{
-    finish, is_granted, lock_index, memory_index, reserve, write_lock, write_word,
+    can_succeed, finish, lock_index, memory_index, reserve, write_lock, write_word,
 };
 use crate::done::Done;
 use crate::offer::{answer_of, offer, record_of};
@@ -23,7 +23,7 @@ pub struct FlatMachine {
 }
 
 impl Model for FlatMachine {
-    ghost use Rattle.flat_model.specs.Held.{MachineView};
+    ghost use Rattle.flat_model.specs.Represents.{MachineView};
 
     ghost Value = { MachineView };
 
@@ -37,10 +37,10 @@ impl Model for FlatMachine {
 
 impl FlatMachine {
     ghost use Rattle.std.specs.Prelude.{◌≡◌, ◌<◌, IfOk, IfSome, IfNone};
-    ghost use Rattle.hart_core.specs.Opening.{hart_count};
+    ghost use Rattle.dash_base.specs.Places.{hart_count};
     ghost use Rattle.flat_model.specs.State.{FlatState, opening_state};
-    ghost use Rattle.flat_model.specs.Run.{IsStanding};
-    ghost use Rattle.flat_model.specs.Held.{IsSized, IsHeld, IsDone, all_work_left};
+    ghost use Rattle.flat_model.specs.Run.{IsFlatStopped};
+    ghost use Rattle.flat_model.specs.Represents.{IsSized, Represents, IsDone, all_work_left};
 
     /// The machine in which a run of an image begins.
     pub fn new(
@@ -48,7 +48,7 @@ impl FlatMachine {
         image: &Image,
         topology: &Topology,
     ) -> Result<FlatMachine, OutOfMemory>
-        ensures held { IfOk result (λ m. IsHeld topology.now m (opening_state image.now topology.now)) }
+        ensures held { IfOk result (λ m. Represents topology.now m (opening_state image.now topology.now)) }
         ensures sized { IfOk result (λ m. IsSized topology.now m) }
     {
         Ok(FlatMachine {
@@ -65,10 +65,10 @@ impl FlatMachine {
     pub fn step(&mut self, image: &Image, topology: &Topology, hart: HartId) -> Option<Done>
         requires in_range { hart.0 < hart_count topology.now }
         requires sized { IsSized topology.now self.old }
-        ensures idle { IfNone result ((s : FlatState) → IsHeld topology.now self.old s
-            → IsStanding image.now topology.now s hart.0) }
+        ensures idle { IfNone result ((s : FlatState) → Represents topology.now self.old s
+            → IsFlatStopped image.now topology.now s hart.0) }
         ensures unchanged { IfNone result (self.new ≡ self.old) }
-        ensures done { IfSome result (λ d. (s : FlatState) → IsHeld topology.now self.old s
+        ensures done { IfSome result (λ d. (s : FlatState) → Represents topology.now self.old s
             → IsDone image.now topology.now s hart.0 d.need d.pc d.record self.new) }
         ensures same { IfSome result (λ d. d.hart ≡ hart) }
         ensures nearer { IfSome result (λ _. all_work_left topology.now self.new < all_work_left topology.now self.old) }
@@ -94,20 +94,20 @@ impl FlatMachine {
     ghost use Rattle.std.specs.Prelude.{◌≡◌, ◌<◌, IfSome, IfNone, IsTrue, Some, true, slice_get};
     ghost use Rattle.hart_core.specs.Access.{IsProper};
     ghost use Rattle.hart_core.specs.HartState.{HartState, can_go_on};
-    ghost use Rattle.hart_core.specs.Opening.{hart_count};
+    ghost use Rattle.dash_base.specs.Places.{hart_count};
     ghost use Rattle.flat_model.specs.State.{FlatState};
     ghost use Rattle.flat_model.specs.Step.{content};
-    ghost use Rattle.flat_model.specs.Run.{IsStanding};
+    ghost use Rattle.flat_model.specs.Run.{IsFlatStopped};
     ghost use Rattle.flat_model.specs.Driven.{succeeds_on};
-    ghost use Rattle.flat_model.specs.Held.{IsSized, IsHeld, all_work_left};
-    ghost use Rattle.flat_model.specs.Change.{FitsRecord, IsCarriedOut, IsDue, asks_in_vain};
+    ghost use Rattle.flat_model.specs.Represents.{IsSized, Represents, all_work_left};
+    ghost use Rattle.flat_model.specs.Change.{FitsRecord, IsCarriedOut, IsDue, is_blocked};
 
     /// What the next instruction of a hart will do, if it can be done.
     fn due(&self, image: &Image, topology: &Topology, hart: HartId) -> Option<Done>
         requires in_range { hart.0 < hart_count topology.now }
         requires sized { IsSized topology.now self.now }
-        ensures idle { IfNone result ((s : FlatState) → IsHeld topology.now self.now s
-            → IsStanding image.now topology.now s hart.0) }
+        ensures idle { IfNone result ((s : FlatState) → Represents topology.now self.now s
+            → IsFlatStopped image.now topology.now s hart.0) }
         ensures due { IfSome result (λ d. IsDue image.now topology.now self.now hart.0 d.need d.pc d.record) }
         ensures fits { IfSome result (λ d. FitsRecord topology.now d.record) }
         ensures same { IfSome result (λ d. d.hart ≡ hart) }
@@ -117,7 +117,7 @@ impl FlatMachine {
         if let Need::Rest = need {
             return None;
         }
-        if self.asks_in_vain(topology, &need) {
+        if self.is_blocked(topology, &need) {
             return None;
         }
         let content = self.content(topology, &need);
@@ -151,10 +151,10 @@ impl FlatMachine {
     }
 
     /// Whether a hart needs a lock word that is not 0.
-    fn asks_in_vain(&self, topology: &Topology, need: &Need) -> bool
+    fn is_blocked(&self, topology: &Topology, need: &Need) -> bool
         requires sized { IsSized topology.now self.now }
         requires proper { IsProper topology.now need.now }
-        ensures { (s : FlatState) → IsHeld topology.now self.now s → result ≡ asks_in_vain s need.now }
+        ensures { (s : FlatState) → Represents topology.now self.now s → result ≡ is_blocked s need.now }
     {
         match need {
             Need::Ask { word, .. } => self.locks[lock_index(topology, *word)] != 0,
@@ -166,7 +166,7 @@ impl FlatMachine {
     fn content(&self, topology: &Topology, need: &Need) -> u32
         requires sized { IsSized topology.now self.now }
         requires proper { IsProper topology.now need.now }
-        ensures { (s : FlatState) → IsHeld topology.now self.now s → result ≡ content s need.now }
+        ensures { (s : FlatState) → Represents topology.now self.now s → result ≡ content s need.now }
     {
         match need {
             Need::Load { word, .. } => self.memory[memory_index(topology, *word)],
@@ -180,11 +180,11 @@ impl FlatMachine {
     fn succeeds(&self, topology: &Topology, hart: HartId, need: &Need) -> bool
         requires in_range { hart.0 < hart_count topology.now }
         requires sized { IsSized topology.now self.now }
-        ensures { (s : FlatState) → IsHeld topology.now self.now s → result ≡ succeeds_on s hart.0 need.now }
+        ensures { (s : FlatState) → Represents topology.now self.now s → result ≡ succeeds_on s hart.0 need.now }
     {
         match need {
             Need::Rmw { word, op, .. } => {
-                is_granted(*op, self.reservations[hart.0 as usize], *word)
+                can_succeed(*op, self.reservations[hart.0 as usize], *word)
             }
             _ => true,
         }

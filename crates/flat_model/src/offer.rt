@@ -1,7 +1,8 @@
 //! The access that an instruction makes, the record of a step, and the answer to its hart.
 ghost use Rattle.std.specs.Prelude.{◌≡◌, Some};
-ghost use Rattle.flat_model.specs.Offered.{bare_access, bytes_under, offered, rmw_access};
-ghost use Rattle.flat_model.specs.Step.{answer_of, record_of};
+ghost use Rattle.dash_event.specs.Offered.{bare_access, bytes_under, offered, rmw_access};
+ghost use Rattle.flat_model.specs.Step.{record_of};
+ghost use Rattle.dash_event.specs.Effects.{answer_of};
 
 use dash_base::{AmoOp, Labels, Mask, WordAddr, merge};
 use dash_event::{Access, Op, Seen, StepRecord};

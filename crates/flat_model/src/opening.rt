@@ -2,7 +2,8 @@
 ghost use Rattle.std.specs.Prelude.{◌≡◌, ℕ, ◌+◌, ◌*◌, ◌<◌, IfOk, map, length, slice_index};
 ghost use Rattle.std.specs.List.{range_with_len};
 ghost use Rattle.elf_load.specs.Image.{opening_word};
-ghost use Rattle.hart_core.specs.Opening.{hart_count, opening_hart};
+ghost use Rattle.hart_core.specs.Opening.{opening_hart};
+ghost use Rattle.dash_base.specs.Places.{hart_count};
 
 use dash_base::{OutOfMemory, Topology};
 use elf_load::{Image, MemoryMap};
@@ -19,7 +20,7 @@ pub fn opening_harts(
         ≡ map (λ h. opening_hart image.now topology.now h) (range_with_len 0 (hart_count topology.now))) }
 {
     let mut harts = Vec::new(alloc);
-    'numbers: for number in 0..topology.clusters * topology.harts {
+    'numbers: for number in 0..topology.hart_count() {
         harts.push(Hart::new(image, topology, HartId(number)))?;
     }
     Ok(harts)
@@ -34,7 +35,7 @@ pub fn opening_reservations(
         ≡ map (λ h. None) (range_with_len 0 (hart_count topology.now))) }
 {
     let mut reservations = Vec::new(alloc);
-    'numbers: for _number in 0..topology.clusters * topology.harts {
+    'numbers: for _number in 0..topology.hart_count() {
         reservations.push(None)?;
     }
     Ok(reservations)

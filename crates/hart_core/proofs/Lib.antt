@@ -1,3 +1,4 @@
 pub mod Shifts
 pub mod Unique
 pub mod Needed
+pub mod LawsOffered

@@ -15,10 +15,10 @@ use Rattle.dash_base.specs.Words.{has_byte}
 use Rattle.elf_load.specs.Image.{ImageView}
 use Rattle.rv32_alu.specs.Arithmetic.{is_taken}
 use Rattle.rv32_decode.specs.declared.prefetch.Hint.{Hint}
-use Rattle.hart_core.specs.declared.need.Found.{Found}
-use Rattle.hart_core.specs.declared.need.Found.TheVariants.{NoWord, NoInstr, This}
-use Rattle.hart_core.specs.declared.need.Need.{Need}
-use Rattle.hart_core.specs.declared.need.Need.TheVariants as needed
+use Rattle.hart_core.specs.declared.found.Found.{Found}
+use Rattle.hart_core.specs.declared.found.Found.TheVariants.{NoWord, NoInstr, This}
+use Rattle.dash_base.specs.declared.need.Need.{Need}
+use Rattle.dash_base.specs.declared.need.Need.TheVariants as needed
 use Rattle.hart_core.specs.declared.width.Width.{Width}
 use Rattle.hart_core.specs.declared.width.Width.TheVariants as width
 use Rattle.hart_core.specs.HartState.{HartState, reg, with_register, can_go_on}

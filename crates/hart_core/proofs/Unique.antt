@@ -3,10 +3,10 @@ use Rattle.std.proofs.Common.{◌≡◌, ◌∙◌, ℕ, Option, Some, None, ap,
 use Rattle.dash_base.specs.declared.topology.Topology.{Topology}
 use Rattle.elf_load.specs.Image.{ImageView}
 use Rattle.rv32_decode.specs.Layout.{word_of}
-use Rattle.rv32_decode.proofs.Unique.{one_word}
-use Rattle.hart_core.specs.declared.need.Found.{Found}
-use Rattle.hart_core.specs.declared.need.Found.TheVariants.{NoWord, NoInstr, This}
-use Rattle.hart_core.specs.declared.need.Need.{Need}
+use Rattle.rv32_decode.proofs.LawsOffered.{one_word}
+use Rattle.hart_core.specs.declared.found.Found.{Found}
+use Rattle.hart_core.specs.declared.found.Found.TheVariants.{NoWord, NoInstr, This}
+use Rattle.dash_base.specs.declared.need.Need.{Need}
 use Rattle.hart_core.specs.HartState.{HartState, can_go_on}
 use Rattle.hart_core.specs.Meaning.{IsFound, need_at, after_need, Needs, Does, IsNext}
 

@@ -15,8 +15,8 @@ use Rattle.elf_load.specs.Image.{ImageView, is_writable}
 use Rattle.hart_core.specs.HartState.{is_running}
 use Rattle.hart_core.specs.declared.width.Width.{Width}
 use Rattle.hart_core.specs.declared.width.Width.TheVariants as width
-use Rattle.hart_core.specs.declared.need.Need.{Need}
-use Rattle.hart_core.specs.declared.need.Need.TheVariants.{Stop, Load, Store, Rmw, Ask, Unlock}
+use Rattle.dash_base.specs.declared.need.Need.{Need}
+use Rattle.dash_base.specs.declared.need.Need.TheVariants.{Stop, Load, Store, Rmw, Ask, Unlock}
 
 -- how many bytes an access means
 abbrev pub size_of : Width → ℕ

@@ -14,10 +14,10 @@ use Rattle.rv32_decode.specs.Decoding.{IsDecoding}
 use Rattle.rv32_decode.specs.Hints.{hint_of}
 use Rattle.rv32_decode.specs.declared.prefetch.Hint.{Hint}
 use Rattle.rv32_alu.specs.Arithmetic.{alu_value, is_taken, moved_by}
-use Rattle.hart_core.specs.declared.need.Found.{Found}
-use Rattle.hart_core.specs.declared.need.Found.TheVariants.{NoWord, NoInstr, This}
-use Rattle.hart_core.specs.declared.need.Need.{Need}
-use Rattle.hart_core.specs.declared.need.Need.TheVariants as needed
+use Rattle.hart_core.specs.declared.found.Found.{Found}
+use Rattle.hart_core.specs.declared.found.Found.TheVariants.{NoWord, NoInstr, This}
+use Rattle.dash_base.specs.declared.need.Need.{Need}
+use Rattle.dash_base.specs.declared.need.Need.TheVariants as needed
 use Rattle.hart_core.specs.HartState.{HartState, reg, with_register, retired_to, can_go_on}
 use Rattle.hart_core.specs.Access.{load_width, store_width, load_need, store_need, amo_need, loaded}
 

@@ -2,12 +2,9 @@
 use Rattle.std.specs.Prelude.{ℕ, ◌+◌, ◌-◌, ◌*◌, List, replicate, slice_set}
 use Rattle.dash_base.specs.declared.end.End.TheVariants.{Running}
 use Rattle.dash_base.specs.declared.topology.Topology.{Topology}
+use Rattle.dash_base.specs.Places.{hart_count}
 use Rattle.elf_load.specs.Image.{ImageView}
 use Rattle.hart_core.specs.HartState.{HartState}
-
--- how many harts the machine has
-abbrev pub hart_count : Topology → ℕ
-hart_count t = t.clusters * t.harts
 
 -- the registers at the start: sp (x2) at the top of the hart's stack, a0 (x10) its number, a1 (x11) how many harts there are
 abbrev pub opening_registers : Topology → ℕ → List ℕ

@@ -2,11 +2,10 @@
 ghost use Rattle.std.specs.Prelude.{◌≡◌, ◌+◌, ◌-◌, ◌*◌, ◌<◌, ◌≤◌, ◌^◌, ◌%◌, IfNone, true, ◌&&◌, ◌==◌};
 ghost use Rattle.hart_core.specs.Access.{size_of, load_width, store_width, word_address, place_in_word, mask_at, placed, in_memory, in_locks, access_trap, trap_or, load_need, store_need, reserve_need, is_ask, is_unlock, lock_need, rmw_need, amo_need, loaded, bytes_at, sign_extended, IsProper, IsInMemory, IsLockWord};
 ghost use Rattle.dash_base.specs.declared.end.End.TheVariants.{Trapped};
-ghost use Rattle.hart_core.specs.declared.need.Need.TheVariants.{Stop};
+ghost use Rattle.dash_base.specs.declared.need.Need.TheVariants.{Stop};
 
-use crate::need::Need;
 use crate::width::Width;
-use dash_base::{AmoOp, End, Labels, LoadOp, Mask, StoreOp, Topology, Trap, WordAddr};
+use dash_base::{AmoOp, End, Labels, LoadOp, Mask, Need, StoreOp, Topology, Trap, WordAddr};
 use elf_load::Image;
 
 /// What a load from an address needs.

@@ -1,12 +1,12 @@
 //! A hart, and what its instructions mean to it.
 ghost use Rattle.std.specs.Prelude.{◌≡◌};
 ghost use Rattle.dash_base.specs.declared.end.End.TheVariants.{Trapped};
-ghost use Rattle.hart_core.specs.declared.need.Need.TheVariants.{Stop};
+ghost use Rattle.dash_base.specs.declared.need.Need.TheVariants.{Stop};
 ghost use Rattle.hart_core.specs.Meaning.{jump_need};
 
 use crate::access::{amo_need, load_need, loaded, store_need};
-use crate::need::{Found, Need};
-use dash_base::{End, HartId, Instr, Topology, Trap};
+use crate::found::Found;
+use dash_base::{End, HartId, Instr, Need, Topology, Trap};
 use elf_load::Image;
 use rv32_alu::{alu, branch};
 use rv32_decode::{decode, hint};
@@ -32,11 +32,12 @@ impl Model for Hart {
 impl Hart {
     ghost use Rattle.std.specs.Prelude.{◌≡◌, ◌<◌, ◌↔◌, IsTrue, false, length};
     ghost use Rattle.hart_core.specs.HartState.{reg, can_go_on};
-    ghost use Rattle.hart_core.specs.Opening.{hart_count, opening_hart};
+    ghost use Rattle.hart_core.specs.Opening.{opening_hart};
+    ghost use Rattle.dash_base.specs.Places.{hart_count};
     ghost use Rattle.hart_core.specs.Access.{IsProper};
     ghost use Rattle.hart_core.specs.Meaning.{IsNext, IsFinished, Does};
-    ghost use Rattle.hart_core.specs.declared.need.Need.{Need};
-    ghost use Rattle.hart_core.specs.declared.need.Need.TheVariants.{Rest};
+    ghost use Rattle.dash_base.specs.declared.need.Need.{Need};
+    ghost use Rattle.dash_base.specs.declared.need.Need.TheVariants.{Rest};
 
     /// The hart with a number at its start: at the entry, sp at the top of its stack, a0 its number,
     /// a1 how many harts there are.
@@ -47,7 +48,7 @@ impl Hart {
         let mut registers = [0; 32];
         registers[2] = topology.base + topology.memory - number.0 * topology.stack;
         registers[10] = number.0;
-        registers[11] = topology.clusters * topology.harts;
+        registers[11] = topology.hart_count();
         Hart {
             pc: image.entry(),
             registers,

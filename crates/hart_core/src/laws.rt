@@ -6,9 +6,9 @@ ghost use Rattle.elf_load.specs.Image.{ImageView};
 ghost use Rattle.hart_core.specs.HartState.{HartState, reg};
 ghost use Rattle.hart_core.specs.Access.{IsProper};
 ghost use Rattle.hart_core.specs.Meaning.{IsFound, HasByte, Needs, Does, retired_after};
-ghost use Rattle.hart_core.specs.declared.need.Found.{Found};
-ghost use Rattle.hart_core.specs.declared.need.Need.{Need};
-ghost use Rattle.hart_core.specs.declared.need.Need.TheVariants.{Rest, Store};
+ghost use Rattle.hart_core.specs.declared.found.Found.{Found};
+ghost use Rattle.dash_base.specs.declared.need.Need.{Need};
+ghost use Rattle.dash_base.specs.declared.need.Need.TheVariants.{Rest, Store};
 
 /// One thing is found at an address.
 pub fn one_found()

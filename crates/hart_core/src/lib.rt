@@ -5,16 +5,15 @@
 //! the answer. Between the two the machine around the hart reads or writes memory, or waits.
 #![tactic(auto)]
 
-pub use dash_base::{End, HartId, Topology, Trap};
+pub use dash_base::{End, HartId, HintKind, Need, Topology, Trap};
 pub use elf_load::Image;
 pub use hart::Hart;
-pub use need::Need;
-pub use rv32_decode::{Hint, HintKind};
+pub use rv32_decode::Hint;
 
 mod access;
+mod found;
 mod hart;
 pub mod laws;
-mod need;
 #[cfg(test)]
 mod tests;
 mod width;

@@ -1,3 +1,4 @@
 pub mod OnePerLine
 pub mod Changed
 pub mod Lawful
+pub mod LawsOffered

@@ -1,6 +1,7 @@
 -- The slots of a cluster as contracts see them, by their numbers.
-use Rattle.std.specs.Prelude.{◌≡◌, ℕ, ◌*◌, ◌==◌, Bool, true, false, not, nat_lt, List, length, Option, Some, None, replicate, slice_index_or, slice_set}
+use Rattle.std.specs.Prelude.{◌≡◌, ℕ, ◌==◌, Bool, true, false, not, nat_lt, List, length, Option, Some, None, replicate, slice_index_or, slice_set}
 use Rattle.std.specs.List.{position}
+use Rattle.dash_base.specs.Places as places
 use Rattle.remote_cache.specs.declared.slot.Slot.{Slot}
 
 -- the harts of the cluster, and what each slot has, if it is not empty
@@ -14,7 +15,7 @@ count v = length v.slots
 
 -- the first slots are the front slots, one for each hart; then the store slots, one for each hart; then prefetch slots
 abbrev pub first_prefetch : SlotsView → ℕ
-first_prefetch v = 2 * v.harts
+first_prefetch v = places.first_prefetch v.harts
 
 -- whether a slot is for prefetches
 abbrev pub is_prefetch : SlotsView → ℕ → Bool

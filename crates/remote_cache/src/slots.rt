@@ -1,13 +1,14 @@
 //! The slots of a cluster.
 ghost use Rattle.std.specs.Prelude.{◌≡◌, ◌<◌, ◌≤◌, ◌+◌, ◌*◌, IfSome, None, Some};
 ghost use Rattle.dash_base.specs.Bounds.{IsBetween};
+ghost use Rattle.dash_base.specs.Places as places;
 ghost use Rattle.remote_cache.specs.View.{SlotsView, count, first_prefetch, is_prefetch, slot_at, slot_of, with_slot, empty_slots, IsOnePerLine};
 ghost use Rattle.remote_cache.specs.Steps.{issued, arrived_in, reply_met, after_reply, after_inval};
 
 use crate::slot::{Phase, Slot};
 use crate::{change, search};
 use arrayvec::ArrayVec;
-use dash_base::{Line, LineId};
+use dash_base::{Line, LineId, first_prefetch};
 use dash_msg::Msg;
 use std::marker::Model;
 
@@ -37,10 +38,10 @@ impl Slots {
     pub fn new(harts: u32, prefetch: u32) -> Slots
         requires harts_in_range { IsBetween 1 4 harts }
         requires prefetch_in_range { prefetch ≤ 8 }
-        ensures { result ≡ empty_slots harts (2 * harts + prefetch) }
+        ensures { result ≡ empty_slots harts (places.first_prefetch harts + prefetch) }
     {
         let mut slots = ArrayVec::new();
-        for _ in 0..2 * harts + prefetch {
+        for _ in 0..first_prefetch(harts) + prefetch {
             slots.push(None);
         }
         Slots { harts, slots }
@@ -57,7 +58,7 @@ impl Slots {
     pub fn first_prefetch(&self) -> u32
         ensures { result ≡ first_prefetch self.now }
     {
-        2 * self.harts
+        first_prefetch(self.harts)
     }
 
     /// What a slot has. `None` where it is empty.
@@ -68,11 +69,17 @@ impl Slots {
         self.slots[id as usize]
     }
 
+    /// What all slots keep: at most one of them has a line. The call does nothing.
+    pub fn keeps_one_slot_a_line(&self)
+        ensures { IsOnePerLine self.now.slots }
+    {
+        let _slots = &self.slots;
+    }
+
     /// The slot that has a line. `None` where no slot has it.
     pub fn of_line(&self, line: LineId) -> Option<u32>
         ensures slot { result ≡ slot_of self.now line.0 }
         ensures in_range { IfSome result (λ id. id < count self.now) }
-        ensures one_per_line { IsOnePerLine self.now.slots }
     {
         search::number_of(&self.slots, line).map(|id| id as u32)
     }

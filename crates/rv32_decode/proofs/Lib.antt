@@ -1,2 +1,3 @@
 mod SameFields
 pub mod Unique
+pub mod LawsOffered

@@ -7,8 +7,8 @@ use Rattle.dash_base.specs.declared.ops.AluOp.{AluOp}
 use Rattle.dash_base.specs.declared.ops.AluOp.TheVariants.{Or}
 use Rattle.rv32_decode.specs.Layout.{in_bits}
 use Rattle.rv32_decode.specs.declared.prefetch.Hint.{Hint}
-use Rattle.rv32_decode.specs.declared.prefetch.HintKind.{HintKind}
-use Rattle.rv32_decode.specs.declared.prefetch.HintKind.TheVariants.{Fetch, Shared, Exclusive}
+use Rattle.dash_base.specs.declared.need.HintKind.{HintKind}
+use Rattle.dash_base.specs.declared.need.HintKind.TheVariants.{Fetch, Shared, Exclusive}
 
 -- the low five bits of an immediate of twelve
 abbrev pub low_bits : ℤ → ℕ

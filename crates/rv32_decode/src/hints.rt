@@ -2,8 +2,8 @@
 ghost use Rattle.std.specs.Prelude.{◌≡◌, ◌<◌, IfSome};
 ghost use Rattle.rv32_decode.specs.Hints.{hint_of, prefetch_kind, kind_of, low_bits, offset_of};
 
-use crate::prefetch::{Hint, HintKind};
-use dash_base::{AluOp, Instr, OpImm};
+use crate::prefetch::Hint;
+use dash_base::{AluOp, HintKind, Instr, OpImm};
 
 /// The prefetch that an instruction is: an ORI with rd 0 and the low five bits of its immediate 0, 1
 /// or 3, as the extension Zicbop has prefetch.i, prefetch.r and prefetch.w.

@@ -9,10 +9,10 @@ ghost use Rattle.dash_base.specs.declared.instr.Instr.{Instr};
 ghost use Rattle.rv32_decode.specs.Decoding.{IsDecoding};
 ghost use Rattle.rv32_decode.specs.Layout.{word_of};
 
-pub use dash_base::{AluOp, AmoOp, BranchOp, Instr, LoadOp, StoreOp};
+pub use dash_base::{AluOp, AmoOp, BranchOp, HintKind, Instr, LoadOp, StoreOp};
 use fields::bits;
 pub use hints::hint;
-pub use prefetch::{Hint, HintKind};
+pub use prefetch::Hint;
 
 mod fields;
 mod formats;

@@ -1,15 +1,6 @@
 //! Prefetches, which are hints: they change no register and never trap.
 
-/// What a prefetch prepares for.
-#[derive(Clone, Copy, Debug, PartialEq, Eq)]
-pub enum HintKind {
-    /// Fetches of instructions: prefetch.i.
-    Fetch,
-    /// Reads, beside other readers: prefetch.r.
-    Shared,
-    /// Writes: prefetch.w.
-    Exclusive,
-}
+use dash_base::HintKind;
 
 /// A prefetch at the address `rs1` + `offset`. The offset is a multiple of 32, in bytes.
 #[derive(Clone, Copy, Debug, PartialEq, Eq)]

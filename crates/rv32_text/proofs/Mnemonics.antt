@@ -12,8 +12,8 @@ use Rattle.dash_base.specs.declared.ops.LoadOp.{LoadOp}
 use Rattle.dash_base.specs.declared.ops.LoadOp.TheVariants.{Lb, Lh, Lw, Lbu, Lhu}
 use Rattle.dash_base.specs.declared.ops.StoreOp.{StoreOp}
 use Rattle.dash_base.specs.declared.ops.StoreOp.TheVariants.{Sb, Sh, Sw}
-use Rattle.rv32_decode.specs.declared.prefetch.HintKind.{HintKind}
-use Rattle.rv32_decode.specs.declared.prefetch.HintKind.TheVariants.{Fetch, Shared, Exclusive}
+use Rattle.dash_base.specs.declared.need.HintKind.{HintKind}
+use Rattle.dash_base.specs.declared.need.HintKind.TheVariants.{Fetch, Shared, Exclusive}
 use Rattle.rv32_text.specs.Names.{branch_name, load_name, store_name, alu_name, immediate_name, amo_name, label_suffix, prefetch_name}
 use Rattle.rv32_text.proofs.Tables.{is_same}
 use Rattle.rv32_text.proofs.Words.{is_word}

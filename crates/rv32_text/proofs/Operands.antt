@@ -8,7 +8,7 @@ use Rattle.dash_base.specs.declared.ops.AluOp.{AluOp}
 use Rattle.dash_base.specs.declared.ops.AmoOp.{AmoOp}
 use Rattle.dash_base.specs.declared.ops.AmoOp.TheVariants as amo
 use Rattle.rv32_decode.specs.Hints.{offset_of, prefetch_kind}
-use Rattle.rv32_decode.specs.declared.prefetch.HintKind.{HintKind}
+use Rattle.dash_base.specs.declared.need.HintKind.{HintKind}
 use Rattle.rv32_text.specs.Names.{register, fence_set}
 use Rattle.rv32_text.proofs.Mnemonics.{Mnemonic, lui, auipc, jal, jalr, branch, load, store, immediate, registers, atomic, fence, ecall, ebreak, prefetch}
 

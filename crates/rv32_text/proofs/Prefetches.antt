@@ -7,8 +7,8 @@ use Rattle.dash_base.specs.declared.instr.OpImm.{OpImm}
 use Rattle.dash_base.specs.declared.ops.AluOp.TheVariants.{Or}
 use Rattle.rv32_decode.specs.Hints.{low_bits, offset_of, prefetch_kind}
 use Rattle.rv32_decode.specs.Layout.{word_of}
-use Rattle.rv32_decode.specs.declared.prefetch.HintKind.{HintKind}
-use Rattle.rv32_decode.specs.declared.prefetch.HintKind.TheVariants.{Fetch, Shared, Exclusive}
+use Rattle.dash_base.specs.declared.need.HintKind.{HintKind}
+use Rattle.dash_base.specs.declared.need.HintKind.TheVariants.{Fetch, Shared, Exclusive}
 use Rattle.rv32_text.proofs.Numbers.{small_immediate, small_offset}
 use Rattle.rv32_text.proofs.Operands.{immediate_mnemonic, immediate_operands}
 use Rattle.rv32_text.proofs.Pieces.{same_register}

@@ -8,7 +8,7 @@ use Rattle.dash_base.specs.declared.instr.OpImm.{OpImm}
 use Rattle.dash_base.specs.declared.ops.AmoOp.{AmoOp}
 use Rattle.dash_base.specs.declared.ops.AmoOp.TheVariants as amo
 use Rattle.rv32_decode.specs.Hints.{offset_of, prefetch_kind, prefetch_of}
-use Rattle.rv32_decode.specs.declared.prefetch.HintKind.{HintKind}
+use Rattle.dash_base.specs.declared.need.HintKind.{HintKind}
 use Rattle.rv32_text.specs.Names.{register, fence_set}
 use Rattle.rv32_text.specs.Text.{place, upper_text, jal_text, place_text, number_text, registers_text, source_text, amo_text, fence_text, hint_text, hint_or, instr_text, text_of}
 use Rattle.rv32_text.proofs.Mnemonics.{lui, auipc, jal, jalr, branch, load, store, immediate, registers, atomic, fence, ecall, ebreak, prefetch, mnemonic_word, spelled}

@@ -5,8 +5,8 @@ use Rattle.dash_base.specs.declared.instr.Instr.TheVariants as instr
 use Rattle.dash_base.specs.declared.instr.OpImm.{OpImm}
 use Rattle.dash_base.specs.declared.ops.AluOp.{AluOp}
 use Rattle.rv32_decode.specs.Hints.{prefetch_kind}
-use Rattle.rv32_decode.specs.declared.prefetch.HintKind.{HintKind}
-use Rattle.rv32_decode.proofs.Unique.{one_word}
+use Rattle.dash_base.specs.declared.need.HintKind.{HintKind}
+use Rattle.rv32_decode.proofs.LawsOffered.{one_word}
 use Rattle.rv32_text.specs.Alike.{AreAlike, same, fences}
 use Rattle.rv32_text.specs.Text.{text_of}
 use Rattle.rv32_text.proofs.Mnemonics.{Mnemonic, lui, auipc, jal, jalr, branch, load, store, immediate, registers, atomic, fence, ecall, ebreak, prefetch, is_used, same_mnemonic, spelled}

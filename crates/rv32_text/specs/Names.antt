@@ -10,8 +10,8 @@ use Rattle.dash_base.specs.declared.ops.LoadOp.{LoadOp}
 use Rattle.dash_base.specs.declared.ops.LoadOp.TheVariants.{Lb, Lh, Lw, Lbu, Lhu}
 use Rattle.dash_base.specs.declared.ops.StoreOp.{StoreOp}
 use Rattle.dash_base.specs.declared.ops.StoreOp.TheVariants.{Sb, Sh, Sw}
-use Rattle.rv32_decode.specs.declared.prefetch.HintKind.{HintKind}
-use Rattle.rv32_decode.specs.declared.prefetch.HintKind.TheVariants.{Fetch, Shared, Exclusive}
+use Rattle.dash_base.specs.declared.need.HintKind.{HintKind}
+use Rattle.dash_base.specs.declared.need.HintKind.TheVariants.{Fetch, Shared, Exclusive}
 
 -- the registers in order, by the names of the ABI
 abbrev pub register_names : List (List ℕ)

@@ -7,8 +7,8 @@ use Rattle.std.specs.FinSet as fs
 use Rattle.std.specs.FinSet.{FinSet, contains, contains-empty, retain, remove}
 use Rattle.std.proofs.lemmas.List.{ext_get_or, get_or-set_same, get_or-set_other, length-replicate}
 use Rattle.std.proofs.lemmas.Bool.Decides.{nat_tests}
-use Rattle.cache_array.proofs.LineMaps.{get-empty_nat, get-insert_nat, get-remove_nat, same_nat_map}
-use Rattle.cache_levels.proofs.Sets.{contains-insert_nat, contains-remove_nat, contains-retain_nat, same_nat_set}
+use Rattle.cache_array.proofs.LawsOffered.{get-empty_nat, get-insert_nat, get-remove_nat, same_nat_map}
+use Rattle.cache_levels.proofs.LawsOffered.{contains-insert_nat, contains-remove_nat, contains-retain_nat, same_nat_set}
 use Rattle.snoop_bus.specs.Holding.{Holding}
 use Rattle.snoop_bus.specs.View.{BusView, harts, holding_at, is_holder, in_hart_l1, empty_bus, set_at, cleared_from, changed, hart_entered, after_hart_read}
 

@@ -5,7 +5,7 @@ use Rattle.std.specs.Ordering.{nat_cmp}
 use Rattle.std.specs.FinSet.{FinSet, contains, insert, remove, contains-empty}
 use Rattle.dash_base.specs.declared.line.Line.{Line}
 use Rattle.cache_levels.specs.View.{empty_levels, with_level_copy, without_level_line, after_read}
-use Rattle.cache_levels.proofs.Sets.{contains-insert_nat, contains-remove_nat, same_nat_set}
+use Rattle.cache_levels.proofs.LawsOffered.{contains-insert_nat, contains-remove_nat, same_nat_set}
 use Rattle.snoop_bus.specs.Caches.{CachesView, owns, no_caches, caches_with, caches_written, caches_without, caches_shared, caches_read}
 
 pub levels-no_caches : (m n : ℕ) → (no_caches m n).levels ≡ empty_levels m n

@@ -4,9 +4,9 @@ use Rattle.std.specs.Prelude.{◌==◌}
 use Rattle.std.proofs.lemmas.Bool.Decides.{nat_tests}
 use Rattle.dash_base.specs.declared.line.Line.{Line}
 use Rattle.cache_array.specs.View.{copy_at, has_line, with_copy, without_line, HasRoom, IsOnePerIndex}
-use Rattle.cache_array.proofs.Lines.{copy_at-with_copy, copy_at-without_line, lines-with_copy, lines-without_line, one_per_index-with_copy, one_per_index-without_line}
+use Rattle.cache_array.proofs.LawsOffered.{copy_at-with_copy, copy_at-without_line, lines-with_copy, lines-without_line, one_per_index-with_copy, one_per_index-without_line}
 use Rattle.cache_levels.specs.View.{LevelsView, in_l1, IsPartOfL2}
-use Rattle.cache_levels.proofs.Lines.{in_l1-with_level_copy, in_l1-without_level_line, l2-with_level_copy, l2-without_level_line, l1_lines-with_level_copy, l1_lines-without_level_line, part-with_level_copy, part-without_level_line}
+use Rattle.cache_levels.proofs.LawsOffered.{in_l1-with_level_copy, in_l1-without_level_line, l2-with_level_copy, l2-without_level_line, l1_lines-with_level_copy, l1_lines-without_level_line, part-with_level_copy, part-without_level_line}
 use Rattle.snoop_bus.specs.Caches.{CachesView, owns, caches_with, caches_written, caches_without, caches_shared}
 use Rattle.snoop_bus.specs.Holding.{Holding}
 use Rattle.snoop_bus.specs.Shared.{hart_copy, share_of_copy, share_of_owner}

@@ -5,7 +5,7 @@ use Rattle.std.proofs.lemmas.Bool.Decides.{nat_tests}
 use Rattle.dash_base.specs.declared.line.Line.{Line}
 use Rattle.cache_array.specs.View.{copy_at, has_line, IsOnePerIndex}
 use Rattle.cache_levels.specs.View.{LevelsView, in_l1, IsPartOfL2, read_of}
-use Rattle.cache_levels.proofs.Lines.{l2-after_read, l1_lines-after_read, in_l1-after_read, part-after_read}
+use Rattle.cache_levels.proofs.LawsOffered.{l2-after_read, l1_lines-after_read, in_l1-after_read, part-after_read}
 use Rattle.snoop_bus.specs.Caches.{CachesView, owns, caches_read}
 use Rattle.snoop_bus.specs.Holding.{Holding, has_hart, holders_in, copy_in}
 use Rattle.snoop_bus.specs.View.{is_holder, in_hart_l1, hart_read_of, after_hart_read}

@@ -10,3 +10,4 @@ pub mod Steps
 pub mod Loops
 pub mod HartReads
 pub mod OnBus
+pub mod LawsOffered

@@ -5,11 +5,10 @@ use Rattle.std.proofs.lemmas.List.{get_or-set_same, get_or-set_other, get_or_def
 use Rattle.std.proofs.lemmas.Bool.Decides.{nat_tests}
 use Rattle.dash_base.specs.declared.line.Line.{Line}
 use Rattle.cache_array.specs.View.{ArrayView, has_line, empty_array, with_copy, without_line, HasRoom, IsOnePerIndex}
-use Rattle.cache_array.proofs.Lines.{copy_at-empty_array, copy_at-with_copy, copy_at-without_line, lines-empty_array, lines-with_copy, lines-without_line}
+use Rattle.cache_array.proofs.LawsOffered.{copy_at-empty_array, copy_at-with_copy, copy_at-without_line, lines-empty_array, lines-with_copy, lines-without_line}
 use Rattle.cache_levels.specs.View.{LevelsView, empty_levels, with_level_copy, without_level_line, after_read}
 use Rattle.cache_levels.specs.Within.{lines_in}
-use Rattle.cache_levels.proofs.Sets.{contains-lines_in, contains-retain_nat}
-use Rattle.cache_levels.proofs.Lines.{l2-empty_levels, l2-with_level_copy, l2-without_level_line, l2-after_read}
+use Rattle.cache_levels.proofs.LawsOffered.{contains-lines_in, contains-retain_nat, l2-empty_levels, l2-with_level_copy, l2-without_level_line, l2-after_read}
 use Rattle.snoop_bus.specs.Caches.{CachesView, owns, no_caches, caches_with, caches_written, caches_without, caches_shared, caches_read}
 use Rattle.snoop_bus.specs.Marks.{owned_in, AreMarks}
 use Rattle.snoop_bus.proofs.CachesLines.{levels-no_caches, levels-caches_with, levels-caches_written, levels-caches_without, levels-caches_shared, levels-caches_read, owns-no_caches, owns-caches_with, owns-caches_written, owns-caches_without, owns-caches_shared, owns-caches_read, same_caches}

@@ -6,9 +6,9 @@ use Rattle.std.proofs.lemmas.Bool.Decides.{nat_tests}
 use Rattle.dash_base.specs.declared.line.Line.{Line}
 use Rattle.dash_base.specs.declared.id.LineId.{LineId}
 use Rattle.cache_array.specs.View.{copy_at, has_line, HasRoom, IsOther, empty_array}
-use Rattle.cache_array.proofs.Lines.{copy_at-empty_array, lines-empty_array, one_per_index-empty_array}
+use Rattle.cache_array.proofs.LawsOffered.{copy_at-empty_array, lines-empty_array, one_per_index-empty_array}
 use Rattle.cache_levels.specs.View.{in_l1, IsPartOfL2}
-use Rattle.cache_levels.proofs.Lines.{l2-empty_levels, l1_lines-empty_levels, in_l1-empty_levels, part-empty_levels}
+use Rattle.cache_levels.proofs.LawsOffered.{l2-empty_levels, l1_lines-empty_levels, in_l1-empty_levels, part-empty_levels}
 use Rattle.snoop_bus.specs.Caches.{CachesView, owns, no_caches}
 use Rattle.snoop_bus.specs.Holding.{holders_in, owner_in, copy_in, joined_by, owned_by}
 use Rattle.snoop_bus.specs.View.{BusView, harts, nobody, all_but, HasHartRoom, IsHartOther, empty_bus}

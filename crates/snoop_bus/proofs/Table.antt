@@ -9,7 +9,7 @@ use Rattle.std.specs.FinMap.{FinMap, get}
 use Rattle.std.proofs.lemmas.List.Folds.{list_any-append}
 use Rattle.std.proofs.lemmas.Bool.Decides.{nat_tests}
 use Rattle.cache_array.specs.View.{copy_at}
-use Rattle.cache_array.proofs.LineMaps.{get-empty_nat, get-insert_nat}
+use Rattle.cache_array.proofs.LawsOffered.{get-empty_nat, get-insert_nat}
 use Rattle.snoop_bus.specs.Caches.{CachesView}
 use Rattle.snoop_bus.specs.Holding.{Holding}
 use Rattle.snoop_bus.specs.View.{holding_at}

@@ -52,10 +52,17 @@ impl Bus {
         self.harts.len() as u32
     }
 
+    /// What every bus keeps: the caches of its harts are one map. A line that is held has holders, one
+    /// copy, and at most one owner, who is a holder. The call does nothing.
+    pub fn keeps_one_map(&self)
+        ensures { IsOneMap self.now }
+    {
+        let _harts = &self.harts;
+    }
+
     /// The harts that hold a line: bit `i` for the hart `i`.
     pub fn holders(&self, line: LineId) -> u32
-        ensures holders { result ≡ holders_at self.now line.0 }
-        ensures one_map { IsOneMap self.now }
+        ensures { result ≡ holders_at self.now line.0 }
     {
         harts::holders(&self.harts, line)
     }

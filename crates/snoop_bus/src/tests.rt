@@ -55,7 +55,7 @@ struct Plain {
     holders: [u32; 512],
     owners: [Option<u32>; 512],
     copies: [Line; 512],
-    near: [[bool; 512]; 4],
+    in_l1: [[bool; 512]; 4],
 }
 
 impl Plain {
@@ -66,7 +66,7 @@ impl Plain {
             holders: [0; 512],
             owners: [None; 512],
             copies: [ZEROS; 512],
-            near: [[false; 512]; 4],
+            in_l1: [[false; 512]; 4],
         }
     }
 
@@ -75,13 +75,13 @@ impl Plain {
     }
 
     fn is_near(&self, hart: u32, line: usize) -> bool {
-        let row = &self.near[hart as usize % 4];
+        let row = &self.in_l1[hart as usize % 4];
         row[line % 512]
     }
 
-    fn set_near(&mut self, hart: u32, line: usize, near: bool) {
-        let row = &mut self.near[hart as usize % 4];
-        row[line % 512] = near;
+    fn set_in_l1(&mut self, hart: u32, line: usize, in_l1: bool) {
+        let row = &mut self.in_l1[hart as usize % 4];
+        row[line % 512] = in_l1;
     }
 
     fn peek(&self, line: usize) -> Option<Line> {
@@ -109,10 +109,10 @@ impl Plain {
         let l1 = self.l1.max(1) as usize;
         for other in 0..512 {
             if other % l1 == line % l1 {
-                self.set_near(hart, other, false);
+                self.set_in_l1(hart, other, false);
             }
         }
-        self.set_near(hart, line, true);
+        self.set_in_l1(hart, line, true);
         Some((copy, 2))
     }
 
@@ -122,7 +122,7 @@ impl Plain {
 
     fn drop_one(&mut self, hart: u32, line: usize) {
         self.holders[line % 512] &= !(1 << (hart % 4));
-        self.set_near(hart, line, false);
+        self.set_in_l1(hart, line, false);
         if self.owners[line % 512] == Some(hart) {
             self.owners[line % 512] = None;
         }

@@ -5,7 +5,7 @@ use Rattle.dash_base.specs.declared.id.HartId.{HartId}
 use Rattle.dash_base.specs.declared.id.LineId.{LineId}
 use Rattle.dash_base.specs.declared.topology.Topology.{Topology}
 use Rattle.elf_load.specs.Image.{ImageView}
-use Rattle.dash_event.specs.Places.{line_of}
+use Rattle.dash_base.specs.Places.{line_of}
 use Rattle.dash_event.specs.Records.{unseen, records_in}
 use Rattle.dash_event.specs.declared.access.Access.{Access}
 use Rattle.dash_event.specs.declared.event.Event.{Event}
@@ -15,13 +15,13 @@ use Rattle.dash_event.specs.declared.step_record.StepRecord.TheVariants as step
 use Rattle.flat_model.specs.Race.{IsRaceFree}
 use Rattle.dash_model.specs.Log.{IsEventAt, IsShown, IsCommitEvent}
 use Rattle.dash_model.specs.Coherent.{IsCommittedBefore}
-use Rattle.dash_model.specs.Followed.{IsFollowed}
+use Rattle.dash_model.specs.Admissible.{IsAdmissible}
 use Rattle.trace_merge.proofs.Released.{steps}
 use Rattle.trace_merge.proofs.Facts.{one_event, three, same_or_not, numbers_rise}
 use Rattle.trace_merge.proofs.Commits.{one_commit, after_store, commit_event}
 use Rattle.trace_merge.proofs.Before.{same_hart, IsConflict, committed_before, visible, IsWritten, by_store, by_rmw, not_after_commit, free_at}
 
-module _ (image : ImageView) (t : Topology) (log : List Event) (f : IsFollowed image t log) where
+module _ (image : ImageView) (t : Topology) (log : List Event) (f : IsAdmissible image t log) where
   -- an atomic operation is shown a version
   pub rmw_shown : (n : ℕ) (b : Access) (l : LineId) (v : ℕ) → IsEventAt log n (kind.Rmw b l v) → (u : ℕ) × IsShown log n b u × (v ≡ suc u)
   rmw_shown n b l v at =

@@ -8,7 +8,7 @@ use Rattle.dash_base.specs.declared.id.LineId.{LineId}
 use Rattle.dash_base.specs.declared.topology.Topology.{Topology}
 use Rattle.dash_msg.specs.declared.msg.Msg.TheVariants.{Unlock}
 use Rattle.elf_load.specs.Image.{ImageView}
-use Rattle.dash_event.specs.Places.{line_of}
+use Rattle.dash_base.specs.Places.{line_of}
 use Rattle.dash_event.specs.Records.{unseen, records_in}
 use Rattle.dash_event.specs.declared.access.Access.{Access}
 use Rattle.dash_event.specs.declared.event.Event.{Event}
@@ -17,13 +17,13 @@ use Rattle.dash_event.specs.declared.event.Kind.TheVariants as kind
 use Rattle.dash_event.specs.declared.step_record.StepRecord.{StepRecord}
 use Rattle.dash_event.specs.declared.step_record.StepRecord.TheVariants as step
 use Rattle.flat_model.specs.Labels.{IsRelease}
-use Rattle.flat_model.specs.Step.{hart_of}
+use Rattle.dash_event.specs.Effects.{hart_of}
 use Rattle.flat_model.specs.Race.{IsRaceFree}
 use Rattle.dash_model.specs.Log.{IsEventAt, IsShown, IsRecordEvent}
 use Rattle.dash_model.specs.Coherent.{IsCommittedBefore}
 use Rattle.dash_model.specs.Release.{IsReleaseEvent}
 use Rattle.dash_model.specs.Replay.{Harts, Accesses, IsLoad}
-use Rattle.dash_model.specs.Followed.{IsFollowed}
+use Rattle.dash_model.specs.Admissible.{IsAdmissible}
 use Rattle.trace_merge.proofs.Places.{upto_more, made_by}
 use Rattle.trace_merge.proofs.Offers.{HasShape, has_shape}
 use Rattle.trace_merge.proofs.Released.{steps, IsReleasedSince, released}
@@ -42,7 +42,7 @@ pub load_reads : (a : Access) → IsLoad a → HasShape a.op (unseen a) → IsSo
 load_reads a (inl load) shape = (subst (λ o. HasShape o (unseen a)) load.0 shape).1
 load_reads a (inr reserve) shape = (subst (λ o. HasShape o (unseen a)) reserve.0 shape).1
 
-module _ (image : ImageView) (t : Topology) (log : List Event) (f : IsFollowed image t log) where
+module _ (image : ImageView) (t : Topology) (log : List Event) (f : IsAdmissible image t log) where
   -- a release of a hart after position i and before position n
   record IsPoint (i n : ℕ) (hart : HartId) : Type 0 where
     at : ℕ

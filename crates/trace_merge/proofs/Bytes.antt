@@ -3,19 +3,19 @@ use Rattle.std.proofs.Common.{◌≡◌, ◌≢◌, ◌⊎◌, inl, inr, ◌<◌
 use Rattle.dash_base.specs.Words.{has_byte, byte_of_word}
 use Rattle.dash_base.specs.declared.topology.Topology.{Topology}
 use Rattle.elf_load.specs.Image.{ImageView, opening_word}
-use Rattle.dash_event.specs.Places.{line_of}
+use Rattle.dash_base.specs.Places.{line_of}
 use Rattle.dash_event.specs.Records.{unseen, records_in}
 use Rattle.dash_event.specs.declared.access.Access.{Access}
 use Rattle.dash_event.specs.declared.event.Event.{Event}
 use Rattle.dash_event.specs.declared.event.Kind.TheVariants as kind
 use Rattle.dash_event.specs.declared.step_record.StepRecord.TheVariants as step
-use Rattle.flat_model.specs.Step.{is_of_memory}
+use Rattle.dash_event.specs.Effects.{is_of_memory}
 use Rattle.flat_model.specs.Order.{IsAccessAt}
 use Rattle.flat_model.specs.LastBefore.{WritesByte, IsByteBefore}
 use Rattle.dash_model.specs.Log.{IsEventAt, commit_in}
 use Rattle.dash_model.specs.LineContent.{word_at}
 use Rattle.dash_model.specs.Coherent.{IsCommittedBefore, IsShownOwn}
-use Rattle.dash_model.specs.Followed.{IsFollowed}
+use Rattle.dash_model.specs.Admissible.{IsAdmissible}
 use Rattle.trace_merge.proofs.Places.{upto_all, place_grows, from_place, at_place, place_before, before_place}
 use Rattle.trace_merge.proofs.Released.{small_records, steps}
 use Rattle.trace_merge.proofs.Facts.{three, same_or_not, event_within, store_op}
@@ -29,7 +29,7 @@ use Rattle.trace_merge.proofs.Writers.{same_word, IsWrite, a_store, a_rmw, write
 one_value : (address x : ℕ) (a b : Access) → a ≡ b → (w : WritesByte address x a) (w' : WritesByte address x b) → w.value ≡ w'.value
 one_value address x a b same w w' = let e : Some w.value ≡ Some w'.value = sym w.written ∙ ap (λ z. z.written) same ∙ w'.written in cc
 
-module _ (image : ImageView) (t : Topology) (log : List Event) (f : IsFollowed image t log) where
+module _ (image : ImageView) (t : Topology) (log : List Event) (f : IsAdmissible image t log) where
   -- the last write of a byte among the records of the first events
   record IsLastWrite (n address x byte : ℕ) : Type 0 where
     at : ℕ

@@ -6,14 +6,14 @@ use Rattle.dash_base.specs.declared.id.HartId.{HartId}
 use Rattle.dash_base.specs.declared.id.LineId.{LineId}
 use Rattle.dash_base.specs.declared.topology.Topology.{Topology}
 use Rattle.elf_load.specs.Image.{ImageView}
-use Rattle.dash_event.specs.Places.{line_of}
+use Rattle.dash_base.specs.Places.{line_of}
 use Rattle.dash_event.specs.declared.access.Access.{Access}
 use Rattle.dash_event.specs.declared.event.Event.{Event}
 use Rattle.dash_event.specs.declared.event.Kind.{Kind}
 use Rattle.dash_event.specs.declared.event.Kind.TheVariants as kind
 use Rattle.dash_model.specs.Log.{IsEventAt, IsCommitEvent}
 use Rattle.dash_model.specs.Coherent.{IsCommittedBefore}
-use Rattle.dash_model.specs.Followed.{IsFollowed}
+use Rattle.dash_model.specs.Admissible.{IsAdmissible}
 use Rattle.trace_merge.proofs.Places.{IsSmall, small_if, upto, from_place, at_place}
 use Rattle.trace_merge.proofs.Facts.{one_event, three, both, one_store}
 
@@ -68,7 +68,7 @@ committed_or_not log a n = decide (upto (own_commit a) log n) refl
 pub committed_later : (log : List Event) (a : Access) (m n : ℕ) → m ≤ n → IsCommittedBefore log a m → IsCommittedBefore log a n
 committed_later log a m n le c = record { at = c.at; line = c.line; version = c.version; is_at = c.is_at; before = (let b = c.before in omega arith) }
 
-module _ (image : ImageView) (t : Topology) (log : List Event) (f : IsFollowed image t log) where
+module _ (image : ImageView) (t : Topology) (log : List Event) (f : IsAdmissible image t log) where
   -- a store has one commit at most
   pub one_commit : (c d : ℕ) (h : HartId) (m : ℕ) (k l : LineId) (u v : ℕ) → IsEventAt log c (kind.Commit h m k u) → IsEventAt log d (kind.Commit h m l v) → c ≡ d
   one_commit c d h m k l u v at_c at_d = one_by (three c d)

@@ -13,7 +13,7 @@ use Rattle.dash_event.specs.declared.step_record.StepRecord.{StepRecord}
 use Rattle.dash_event.specs.declared.step_record.StepRecord.TheVariants as step
 use Rattle.flat_model.specs.State.{FlatState, opening_state}
 use Rattle.flat_model.specs.Step.{console_after}
-use Rattle.flat_model.specs.Run.{AreSteps, RunsTo}
+use Rattle.flat_model.specs.Run.{AreFlatSteps, RunsTo}
 
 -- the byte that a record puts on the console, where it puts one
 abbrev byte_of : StepRecord → List ℕ
@@ -27,7 +27,7 @@ console_grows (step.Stopped hart end) old = sym (append-nil old)
 console_grows (step.Plain hart) old = sym (append-nil old)
 
 -- steps add their bytes
-console_left : (image : ImageView) (t : Topology) (old : FlatState) (rs : List StepRecord) (new : FlatState) → AreSteps image t old rs new
+console_left : (image : ImageView) (t : Topology) (old : FlatState) (rs : List StepRecord) (new : FlatState) → AreFlatSteps image t old rs new
     → new.console ≡ old.console ++ flat_map byte_of rs
 console_left image t old [] new steps = ap (λ s. s.console) steps ∙ sym (append-nil old.console)
 console_left image t old (r ∷ rs) new steps =

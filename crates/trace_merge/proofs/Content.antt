@@ -10,8 +10,8 @@ use Rattle.dash_event.specs.declared.event.Kind.{Kind}
 use Rattle.dash_event.specs.declared.event.Kind.TheVariants as kind
 use Rattle.dash_event.specs.declared.step_record.StepRecord.TheVariants as step
 use Rattle.flat_model.specs.LastBefore.{WritesByte}
-use Rattle.flat_model.specs.Step.{word_after}
-use Rattle.flat_model.proofs.Writes.{same_access, byte_after, WritesOrKeeps}
+use Rattle.dash_event.specs.Effects.{word_after}
+use Rattle.flat_model.proofs.LawsOffered.{same_access, byte_after, WritesOrKeeps}
 use Rattle.dash_model.specs.Log.{IsEventAt, commit_in, commits_of, commits_before}
 use Rattle.dash_model.specs.LineContent.{committed, committed_over, word_at}
 use Rattle.trace_merge.proofs.Places.{IsSmall, small_if, upto_all, from_place, before_place}

@@ -1,4 +1,4 @@
--- The step of each event of a followed log, on the state that the events before it lead to.
+-- The step of each event of an admissible log, on the state that the events before it lead to.
 use Rattle.std.proofs.Common.{◌≡◌, ◌≢◌, inl, inr, ◌<◌, ◌≤◌, ℕ, suc, ◌+◌, Bool, true, false, List, [], ◌∷◌, ◌++◌, Some, refl, sym, ◌∙◌, ap, subst, arith, eq-eqb}
 use Rattle.std.proofs.lemmas.Bool.Decides.{nat_tests}
 use Rattle.std.proofs.lemmas.List.{append-nil}
@@ -9,7 +9,7 @@ use Rattle.dash_base.specs.declared.id.HartId.{HartId}
 use Rattle.dash_base.specs.declared.id.LineId.{LineId}
 use Rattle.dash_base.specs.declared.topology.Topology.{Topology}
 use Rattle.elf_load.specs.Image.{ImageView}
-use Rattle.dash_event.specs.Places.{line_of}
+use Rattle.dash_base.specs.Places.{line_of, hart_count}
 use Rattle.dash_event.specs.Records.{unseen, records_in}
 use Rattle.dash_event.specs.declared.access.Access.{Access}
 use Rattle.dash_event.specs.declared.access.Op.TheVariants as op
@@ -20,21 +20,20 @@ use Rattle.dash_event.specs.declared.step_record.StepRecord.{StepRecord}
 use Rattle.dash_event.specs.declared.step_record.StepRecord.TheVariants as step
 use Rattle.hart_core.specs.HartState.{HartState}
 use Rattle.hart_core.specs.Meaning.{Does}
-use Rattle.hart_core.specs.Opening.{hart_count}
-use Rattle.hart_core.specs.declared.need.Need.{Need}
-use Rattle.hart_core.proofs.Unique.{any_answer}
-use Rattle.flat_model.specs.Offered.{bytes_under}
+use Rattle.dash_base.specs.declared.need.Need.{Need}
+use Rattle.hart_core.proofs.LawsOffered.{any_answer}
+use Rattle.dash_event.specs.Offered.{bytes_under}
 use Rattle.flat_model.specs.State.{FlatState, opening_state}
-use Rattle.flat_model.specs.Step.{hart_of, is_of_memory, record_of, reply, state_after, IsFlatStep}
+use Rattle.flat_model.specs.Step.{record_of, flat_state_after, IsFlatStep}
+use Rattle.dash_event.specs.Effects.{hart_of, is_of_memory, reply}
 use Rattle.flat_model.specs.Run.{RunsTo}
 use Rattle.flat_model.specs.Race.{IsRaceFree, IsProperlyLabelled}
-use Rattle.flat_model.proofs.Steps.{one_more_step}
-use Rattle.flat_model.proofs.Seen.{memory_at_end, locks_at_end}
+use Rattle.flat_model.proofs.LawsOffered.{one_more_step, memory_at_end, locks_at_end}
 use Rattle.dash_model.specs.Log.{IsEventAt}
 use Rattle.dash_model.specs.LineContent.{word_at}
 use Rattle.dash_model.specs.Coherent.{IsShownOwn, IsLockEvent}
 use Rattle.dash_model.specs.Replay.{Harts, Accesses, IsLoad, IsRmw, IsShownVersion, IsShownStore}
-use Rattle.dash_model.specs.Followed.{IsFollowed}
+use Rattle.dash_model.specs.Admissible.{IsAdmissible}
 use Rattle.trace_merge.proofs.Places.{upto_more, made_by}
 use Rattle.trace_merge.proofs.Offers.{HasShape}
 use Rattle.trace_merge.proofs.Released.{steps}
@@ -62,7 +61,7 @@ rmw_kind : (a : Access) → IsRmw a → is_of_memory a.op ≡ true
 rmw_kind a (inl amo) = ap is_of_memory amo
 rmw_kind a (inr cond) = ap is_of_memory cond.0
 
-module _ (image : ImageView) (t : Topology) (log : List Event) (f : IsFollowed image t log) (labelled : IsProperlyLabelled image t) where
+module _ (image : ImageView) (t : Topology) (log : List Event) (f : IsAdmissible image t log) (labelled : IsProperlyLabelled image t) where
   -- the records of the first n events lead to a state with the harts of the replay
   pub record IsRunTo (n : ℕ) : Type 0 where
     pub state : FlatState
@@ -92,7 +91,7 @@ module _ (image : ImageView) (t : Topology) (log : List Event) (f : IsFollowed i
 
   -- an access that can be done is a step
   access_step : (s : FlatState) (h : HartId) (need : Need) (a : Access) (next : HartState) → h.0 < hart_count t → CanDo s h.0 ((s.harts h.0).retired + 1) need a
-      → Does image t (s.harts h.0) need (reply a.read a.written) next → IsFlatStep image t s h.0 (step.Access a) (state_after s (step.Access a) next)
+      → Does image t (s.harts h.0) need (reply a.read a.written) next → IsFlatStep image t s h.0 (step.Access a) (flat_state_after s (step.Access a) next)
   access_step s h need a next in_range can does = record {
     in_range = in_range;
     need = need;
@@ -112,13 +111,13 @@ module _ (image : ImageView) (t : Topology) (log : List Event) (f : IsFollowed i
   pub by_access : (n : ℕ) (s : FlatState) (k : Kind) (a : Access) → IsMet n s → IsEventAt log n k → records_in k ≡ step.Access (unseen a) ∷ [] → (e : Accesses image t s.harts (f.harts (suc n)) a)
       → CanDo s a.hart.0 ((s.harts a.hart.0).retired + 1) e.need (unseen a) → IsRunTo (suc n)
   by_access n s k a met at makes e can =
-      with_record n k (step.Access (unseen a)) s (state_after s (step.Access (unseen a)) (f.harts (suc n) a.hart.0)) at makes met.runs
+      with_record n k (step.Access (unseen a)) s (flat_state_after s (step.Access (unseen a)) (f.harts (suc n) a.hart.0)) at makes met.runs
       (access_step s a.hart e.need (unseen a) (f.harts (suc n) a.hart.0) e.moves.in_range can e.moves.does) (moved s.harts (f.harts (suc n)) a.hart e.moves.others)
 
   -- another access of these bytes stands last in a sequential run, which has no race
   record IsOther (n : ℕ) (s : FlatState) (a r : Access) : Type 0 where
     next : HartState
-    does : IsFlatStep image t s a.hart.0 (step.Access r) (state_after s (step.Access r) next)
+    does : IsFlatStep image t s a.hart.0 (step.Access r) (flat_state_after s (step.Access r) next)
     race_free : IsRaceFree (steps log n ++ step.Access r ∷ [])
 
   other : (n : ℕ) (s : FlatState) (a : Access) → IsMet n s → (e : Accesses image t s.harts (f.harts (suc n)) a)
@@ -126,7 +125,7 @@ module _ (image : ImageView) (t : Topology) (log : List Event) (f : IsFollowed i
   other n s a met e c =
       let r = c.access in
       let k = any_answer image t (s.harts a.hart.0) (f.harts (suc n) a.hart.0) e.need _ (reply r.read r.written) e.moves.does in
-      let new = state_after s (step.Access r) k.0 in
+      let new = flat_state_after s (step.Access r) k.0 in
       let does : IsFlatStep image t s a.hart.0 (step.Access r) new = access_step s a.hart e.need r k.0 e.moves.in_range c.can k.1 in
       record {
         next = k.0;
@@ -201,7 +200,7 @@ module _ (image : ImageView) (t : Topology) (log : List Event) (f : IsFollowed i
       by_kind (inr cond) =
           let all = (subst (λ p. HasShape p (unseen a)) cond.0 shape).1 in
           let has = has_reserved image t log f n a c.access (record { race_free = o.race_free; same_hart = c.same_hart; same_word = c.same_word; all = c.same_mask ∙ all })
-          (f.conds_are_reserved n a line version at cond.0) (c.same_op ∙ cond.0) s (state_after s (step.Access c.access) o.next) met.runs o.does in
+          (f.conds_are_reserved n a line version at cond.0) (c.same_op ∙ cond.0) s (flat_state_after s (step.Access c.access) o.next) met.runs o.does in
           can_succeed s a.hart.0 _ e.need e.content e.succeeds (unseen a) e.is_offered cond.0 cond.1 has
 
   lock_reads : (n : ℕ) (s : FlatState) (a : Access) → IsMet n s → IsLockEvent log n a → a.read ≡ Some (s.locks a.word.0)

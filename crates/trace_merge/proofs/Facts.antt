@@ -1,4 +1,4 @@
--- What a followed log says of its accesses: numbers rise, stores are ordinary, and each is found again by its hart and number.
+-- What an admissible log says of its accesses: numbers rise, stores are ordinary, and each is found again by its hart and number.
 use Rattle.std.proofs.Common.{◌≡◌, ◌≢◌, ◌⊎◌, inl, inr, ◌<◌, ◌≤◌, ℕ, zero, suc, ◌+◌, Bool, true, false, List, [], ◌∷◌, length, Option, Some, None, refl, sym, ◌∙◌, ap, subst, arith, eq-eqb}
 use Rattle.std.proofs.lemmas.Bool.Decides.{nat_tests}
 use Rattle.std.proofs.lemmas.Option.{slice_get_within}
@@ -7,21 +7,19 @@ use Rattle.dash_base.specs.declared.id.HartId.{HartId}
 use Rattle.dash_base.specs.declared.topology.Topology.{Topology}
 use Rattle.elf_load.specs.Image.{ImageView}
 use Rattle.hart_core.specs.Meaning.{HasByte, Needs}
-use Rattle.hart_core.specs.declared.need.Need.{Need}
-use Rattle.hart_core.proofs.Unique.{needs_of}
-use Rattle.hart_core.proofs.Needed.{store_has_byte}
+use Rattle.dash_base.specs.declared.need.Need.{Need}
+use Rattle.hart_core.proofs.LawsOffered.{needs_of, store_has_byte}
 use Rattle.dash_event.specs.Records.{unseen}
 use Rattle.dash_event.specs.declared.access.Access.{Access}
 use Rattle.dash_event.specs.declared.access.Op.TheVariants as op
 use Rattle.dash_event.specs.declared.event.Event.{Event}
 use Rattle.dash_event.specs.declared.event.Kind.{Kind}
 use Rattle.dash_event.specs.declared.event.Kind.TheVariants as kind
-use Rattle.flat_model.proofs.Offers.{number_is}
-use Rattle.flat_model.proofs.Retired.{retires_no_less, access_retires}
+use Rattle.flat_model.proofs.LawsOffered.{number_is, retires_no_less, access_retires}
 use Rattle.dash_model.specs.Log.{IsEventAt}
 use Rattle.dash_model.specs.LineContent.{store_in, store_of}
 use Rattle.dash_model.specs.Replay.{Harts, Moves, Accesses, Replays}
-use Rattle.dash_model.specs.Followed.{IsFollowed}
+use Rattle.dash_model.specs.Admissible.{IsAdmissible}
 use Rattle.trace_merge.proofs.Places.{IsSmall, small_if, upto, from_place, at_place, upto_all}
 use Rattle.trace_merge.proofs.Offers.{IsPlainStore, has_shape, store_need, HasShape}
 
@@ -118,7 +116,7 @@ first_of : {A : Type 0} (xs : List A) (p : ℕ) (x : A) → slice_get xs p ≡ S
 first_of [] p x at = absurd cc
 first_of (y ∷ xs) p x at = (y, refl)
 
-module _ (image : ImageView) (t : Topology) (log : List Event) (f : IsFollowed image t log) where
+module _ (image : ImageView) (t : Topology) (log : List Event) (f : IsAdmissible image t log) where
   pub replays : (n : ℕ) (k : Kind) → IsEventAt log n k → Replays image t (f.harts n) k (f.harts (suc n))
   replays n k at = let next : n + 1 ≡ suc n = omega arith in subst (λ m. Replays image t (f.harts n) k (f.harts m)) next (f.replay.moves n k at)
 

@@ -1,4 +1,4 @@
--- The written log of one hart, with a load of the hart's own store, is followed.
+-- The written log of one hart, with a load of the hart's own store, is admissible.
 use Rattle.std.proofs.Common.{◌≡◌, ◌<◌, ℕ, zero, suc, ◌+◌, [], ◌∷◌, Some, refl, sym, ◌∙◌, ap, subst, arith}
 use Rattle.std.specs.Prelude.{◌/◌, ◌-◌, slice_get, option_map}
 use Rattle.dash_base.specs.Topology.{IsSimple}
@@ -8,15 +8,15 @@ use Rattle.dash_base.specs.declared.id.HartId.{HartId}
 use Rattle.dash_base.specs.declared.id.LineId.{LineId}
 use Rattle.dash_base.specs.declared.topology.Topology.{Topology}
 use Rattle.elf_load.specs.Image.{word_among, byte_among}
-use Rattle.dash_event.specs.Places.{line_of}
+use Rattle.dash_base.specs.Places.{line_of}
 use Rattle.dash_event.specs.declared.access.Access.{Access}
 use Rattle.dash_event.specs.declared.access.Seen.TheVariants.{Line, Own}
 use Rattle.dash_event.specs.declared.event.Kind.TheVariants as kind
-use Rattle.flat_model.specs.Offered.{bytes_under}
+use Rattle.dash_event.specs.Offered.{bytes_under}
 use Rattle.dash_model.specs.Log.{IsEventAt, IsShown, IsCommitEvent, commits_before}
 use Rattle.dash_model.specs.LineContent.{word_at}
 use Rattle.dash_model.specs.Coherent.{IsCommittedBefore, IsShownOwn, IsCoherent}
-use Rattle.dash_model.specs.Followed.{IsFollowed}
+use Rattle.dash_model.specs.Admissible.{IsAdmissible}
 use Rattle.trace_merge.specs.WrittenLogs.{forwarding_image, forwarded_store, forwarded_load, committed_load, forwarding_log}
 use Rattle.trace_merge.proofs.Offers.{has_each}
 use Rattle.trace_merge.proofs.Written.{CommitsIn, commits_in, ServesIn, serves_in, ReleasesIn, releases_in, accesses_at, accesses_in_event}
@@ -201,8 +201,8 @@ module _ (t : Topology) (s : IsSimple 1 1 8 t) where
     grants_read_zero = λ i a at. absurd (no_grant i a at);
   }
 
-  pub is_followed : IsFollowed forwarding_image t forwarding_log
-  is_followed = record {
+  pub is_admissible : IsAdmissible forwarding_image t forwarding_log
+  is_admissible = record {
     harts = harts t s;
     replay = replay t s;
     coherent = coherent;

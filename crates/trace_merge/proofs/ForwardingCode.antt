@@ -14,13 +14,14 @@ use Rattle.dash_base.specs.declared.topology.Topology.{Topology}
 use Rattle.elf_load.specs.Image.{fetched, word_among, byte_among, is_writable}
 use Rattle.hart_core.specs.HartState.{HartState}
 use Rattle.hart_core.specs.Access.{trap_or, placed}
-use Rattle.hart_core.specs.Opening.{hart_count, opening_hart}
+use Rattle.hart_core.specs.Opening.{opening_hart}
+use Rattle.dash_base.specs.Places.{hart_count}
 use Rattle.hart_core.specs.Meaning.{performed, instr_need}
-use Rattle.hart_core.specs.declared.need.Found.TheVariants.{This}
-use Rattle.hart_core.specs.declared.need.Need.TheVariants as needed
+use Rattle.hart_core.specs.declared.found.Found.TheVariants.{This}
+use Rattle.dash_base.specs.declared.need.Need.TheVariants as needed
 use Rattle.dash_event.specs.declared.event.Kind.{Kind}
 use Rattle.dash_event.specs.declared.event.Kind.TheVariants as kind
-use Rattle.flat_model.specs.Offered.{no_label}
+use Rattle.dash_event.specs.Offered.{no_label}
 use Rattle.dash_model.specs.Log.{IsEventAt}
 use Rattle.dash_model.specs.Replay.{Harts, Accesses, Replays, IsReplay}
 use Rattle.trace_merge.specs.WrittenLogs.{forwarding_image, forwarded_store, forwarded_load, committed_load, forwarding_log}

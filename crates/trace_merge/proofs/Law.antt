@@ -1,4 +1,4 @@
--- The records of a followed log of a properly labelled image are a sequential run: by induction on its prefixes.
+-- The records of an admissible log of a properly labelled image are a sequential run: by induction on its prefixes.
 use Rattle.std.proofs.Common.{◌≡◌, ◌⊎◌, inl, inr, ◌<◌, ◌≤◌, ℕ, zero, suc, false, List, length, refl, sym, subst, arith}
 use Rattle.dash_base.specs.declared.topology.Topology.{Topology}
 use Rattle.elf_load.specs.Image.{ImageView}
@@ -7,41 +7,41 @@ use Rattle.dash_event.specs.declared.event.Event.{Event}
 use Rattle.dash_event.specs.declared.event.Kind.{Kind}
 use Rattle.dash_event.specs.declared.event.Kind.TheVariants as kind
 use Rattle.dash_event.specs.declared.step_record.StepRecord.TheVariants as step
-use Rattle.hart_core.specs.declared.need.Need.TheVariants as needed
+use Rattle.dash_base.specs.declared.need.Need.TheVariants as needed
 use Rattle.flat_model.specs.State.{FlatState, opening_state}
-use Rattle.flat_model.specs.Step.{state_after}
+use Rattle.flat_model.specs.Step.{flat_state_after}
 use Rattle.flat_model.specs.Run.{RunsTo, IsSequentialRun}
 use Rattle.flat_model.specs.Race.{IsProperlyLabelled}
 use Rattle.dash_model.specs.Log.{IsEventAt}
 use Rattle.dash_model.specs.Replay.{Replays}
-use Rattle.dash_model.specs.Followed.{IsFollowed}
+use Rattle.dash_model.specs.Admissible.{IsAdmissible}
 use Rattle.trace_merge.proofs.Places.{upto_all}
 use Rattle.trace_merge.proofs.Facts.{some_event, replays}
 use Rattle.trace_merge.proofs.Needs.{can_store, can_fail}
 use Rattle.trace_merge.proofs.Events.{moved, IsRunTo, AreRunsTo, IsMet, with_record, without_record, by_access, load_step, rmw_step, grant_step, free_step}
 
-module _ (image : ImageView) (t : Topology) (log : List Event) (f : IsFollowed image t log) (labelled : IsProperlyLabelled image t) where
+module _ (image : ImageView) (t : Topology) (log : List Event) (f : IsAdmissible image t log) (labelled : IsProperlyLabelled image t) where
   still : (s : FlatState) (n : ℕ) → ((g : ℕ) → f.harts (suc n) g ≡ s.harts g) → s.harts ≡ f.harts (suc n)
   still s n stays = λ i g. sym (stays g) i
 
   -- each kind of event
   step_on : (n : ℕ) (s : FlatState) (k : Kind) → IsMet image t log f labelled n s → IsEventAt log n k → Replays image t s.harts k (f.harts (suc n)) → IsRunTo image t log f labelled (suc n)
   step_on n s (kind.Alu h pc) met at e =
-      with_record image t log f labelled n (kind.Alu h pc) (step.Plain h) s (state_after s (step.Plain h) (f.harts (suc n) h.0)) at refl met.runs
+      with_record image t log f labelled n (kind.Alu h pc) (step.Plain h) s (flat_state_after s (step.Plain h) (f.harts (suc n) h.0)) at refl met.runs
       (record { in_range = e.in_range; need = needed.Alu; succeeds = false; possible = tt; recorded = refl; next = f.harts (suc n) h.0; does = e.does; after = refl }) (moved s.harts (f.harts (suc n)) h e.others)
   step_on n s (kind.Fence h pc) met at e =
       let m = e.moves in
-      with_record image t log f labelled n (kind.Fence h pc) (step.Plain h) s (state_after s (step.Plain h) (f.harts (suc n) h.0)) at refl met.runs
+      with_record image t log f labelled n (kind.Fence h pc) (step.Plain h) s (flat_state_after s (step.Plain h) (f.harts (suc n) h.0)) at refl met.runs
       (record { in_range = m.in_range; need = needed.Fence e.waits; succeeds = false; possible = tt; recorded = refl; next = f.harts (suc n) h.0; does = m.does; after = refl }) (moved s.harts (f.harts (suc n)) h m.others)
   step_on n s (kind.Hint h pc slot) met at e =
       let m = e.moves in
-      with_record image t log f labelled n (kind.Hint h pc slot) (step.Plain h) s (state_after s (step.Plain h) (f.harts (suc n) h.0)) at refl met.runs
+      with_record image t log f labelled n (kind.Hint h pc slot) (step.Plain h) s (flat_state_after s (step.Plain h) (f.harts (suc n) h.0)) at refl met.runs
       (record { in_range = m.in_range; need = needed.Hint e.hint e.address; succeeds = false; possible = tt; recorded = refl; next = f.harts (suc n) h.0; does = m.does; after = refl }) (moved s.harts (f.harts (suc n)) h m.others)
   step_on n s (kind.Put h pc b) met at e =
-      with_record image t log f labelled n (kind.Put h pc b) (step.Byte h b) s (state_after s (step.Byte h b) (f.harts (suc n) h.0)) at refl met.runs
+      with_record image t log f labelled n (kind.Put h pc b) (step.Byte h b) s (flat_state_after s (step.Byte h b) (f.harts (suc n) h.0)) at refl met.runs
       (record { in_range = e.in_range; need = needed.Put b; succeeds = false; possible = tt; recorded = refl; next = f.harts (suc n) h.0; does = e.does; after = refl }) (moved s.harts (f.harts (suc n)) h e.others)
   step_on n s (kind.Stop h pc q) met at e =
-      with_record image t log f labelled n (kind.Stop h pc q) (step.Stopped h q) s (state_after s (step.Stopped h q) (f.harts (suc n) h.0)) at refl met.runs
+      with_record image t log f labelled n (kind.Stop h pc q) (step.Stopped h q) s (flat_state_after s (step.Stopped h q) (f.harts (suc n) h.0)) at refl met.runs
       (record { in_range = e.in_range; need = needed.Stop q; succeeds = false; possible = tt; recorded = refl; next = f.harts (suc n) h.0; does = e.does; after = refl }) (moved s.harts (f.harts (suc n)) h e.others)
   step_on n s (kind.Load a level) met at e = load_step image t log f labelled n s a level met at e.0 e.1
   step_on n s (kind.Store a) met at e =

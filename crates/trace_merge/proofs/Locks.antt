@@ -8,13 +8,13 @@ use Rattle.dash_event.specs.declared.event.Event.{Event}
 use Rattle.dash_event.specs.declared.event.Kind.{Kind}
 use Rattle.dash_event.specs.declared.event.Kind.TheVariants as kind
 use Rattle.dash_event.specs.declared.step_record.StepRecord.TheVariants as step
-use Rattle.flat_model.specs.Step.{is_of_memory}
+use Rattle.dash_event.specs.Effects.{is_of_memory}
 use Rattle.flat_model.specs.Order.{IsAccessAt}
 use Rattle.flat_model.specs.LastBefore.{IsLockAccess, IsLockBefore}
 use Rattle.dash_model.specs.Log.{IsEventAt}
 use Rattle.dash_model.specs.Coherent.{ServesLock, IsLockEvent, ReadsLock, reads_first, reads_last}
 use Rattle.dash_model.specs.Replay.{IsLoad, IsRmw}
-use Rattle.dash_model.specs.Followed.{IsFollowed}
+use Rattle.dash_model.specs.Admissible.{IsAdmissible}
 use Rattle.trace_merge.proofs.Places.{Origin, from_place, at_place, before_place}
 use Rattle.trace_merge.proofs.Released.{small_records, steps}
 use Rattle.trace_merge.proofs.Facts.{one_event, three, replays}
@@ -30,7 +30,7 @@ one_served (kind.Grant c) a b x y = sym x ∙ y
 one_served (kind.Free g c) a b x y = sym x ∙ y
 one_served k a b x y = elim x [ ]
 
-module _ (image : ImageView) (t : Topology) (log : List Event) (f : IsFollowed image t log) where
+module _ (image : ImageView) (t : Topology) (log : List Event) (f : IsAdmissible image t log) where
   served_op : (i : ℕ) (k : Kind) (b : Access) → IsEventAt log i k → ServesLock k b → is_of_memory b.op ≡ false
   served_op i (kind.Grant a) b at serves = let e = replays image t log f i (kind.Grant a) at in ap (λ x. is_of_memory x.op) (sym serves) ∙ ap is_of_memory e.1
   served_op i (kind.Free g a) b at serves = let e = replays image t log f i (kind.Free g a) at in ap (λ x. is_of_memory x.op) (sym serves) ∙ ap is_of_memory e.1

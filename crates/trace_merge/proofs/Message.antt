@@ -1,4 +1,4 @@
--- The written log of a message passing is followed.
+-- The written log of a message passing is admissible.
 use Rattle.std.proofs.Common.{◌≡◌, ◌⊎◌, inl, inr, ◌<◌, ◌≤◌, ℕ, ◌+◌, Some, refl, sym, ◌∙◌, ap, subst, arith}
 use Rattle.std.specs.Prelude.{◌/◌, ◌-◌}
 use Rattle.dash_base.specs.Topology.{IsSimple}
@@ -7,15 +7,15 @@ use Rattle.dash_base.specs.declared.id.HartId.{HartId}
 use Rattle.dash_base.specs.declared.id.LineId.{LineId}
 use Rattle.dash_base.specs.declared.topology.Topology.{Topology}
 use Rattle.elf_load.specs.Image.{word_among, byte_among}
-use Rattle.dash_event.specs.Places.{line_of}
+use Rattle.dash_base.specs.Places.{line_of}
 use Rattle.dash_event.specs.declared.access.Access.{Access}
 use Rattle.dash_event.specs.declared.access.Op.TheVariants as op
-use Rattle.flat_model.specs.Offered.{bytes_under}
+use Rattle.dash_event.specs.Offered.{bytes_under}
 use Rattle.dash_model.specs.Log.{IsShown, IsCommitEvent, commits_before}
 use Rattle.dash_model.specs.LineContent.{word_at}
 use Rattle.dash_model.specs.Coherent.{IsCommittedBefore, IsCoherent}
 use Rattle.dash_model.specs.Release.{IsReleaseEvent}
-use Rattle.dash_model.specs.Followed.{IsFollowed}
+use Rattle.dash_model.specs.Admissible.{IsAdmissible}
 use Rattle.trace_merge.specs.WrittenLogs.{message_image, message_store, flag_release, flag_acquire, message_load, message_log}
 use Rattle.trace_merge.proofs.Written.{commits_in, serves_in, releases_in, accesses_in_event}
 use Rattle.trace_merge.proofs.MessageReplay.{harts, replay}
@@ -125,8 +125,8 @@ module _ (t : Topology) (s : IsSimple 2 1 8 t) where
     grants_read_zero = λ i a at. absurd (no_grant i a at);
   }
 
-  pub is_followed : IsFollowed message_image t message_log
-  is_followed = record {
+  pub is_admissible : IsAdmissible message_image t message_log
+  is_admissible = record {
     harts = harts t s;
     replay = replay t s;
     coherent = coherent;

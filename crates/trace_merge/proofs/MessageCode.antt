@@ -13,9 +13,9 @@ use Rattle.elf_load.specs.Image.{fetched, word_among, byte_among, is_writable}
 use Rattle.hart_core.specs.HartState.{HartState, reg}
 use Rattle.hart_core.specs.Access.{trap_or, placed, lock_need, load_need, store_need, amo_need}
 use Rattle.hart_core.specs.Meaning.{instr_need, IsFound}
-use Rattle.hart_core.specs.declared.need.Found.TheVariants.{This, NoWord}
-use Rattle.hart_core.specs.declared.need.Need.TheVariants as needed
-use Rattle.flat_model.specs.Offered.{no_label, acquire_label, release_label}
+use Rattle.hart_core.specs.declared.found.Found.TheVariants.{This, NoWord}
+use Rattle.dash_base.specs.declared.need.Need.TheVariants as needed
+use Rattle.dash_event.specs.Offered.{no_label, acquire_label, release_label}
 use Rattle.trace_merge.specs.WrittenLogs.{message_image}
 use Rattle.trace_merge.proofs.Written.{outside_locks, access_clear}
 use Rattle.rv32_alu.specs.Arithmetic.{moved_by}

@@ -7,18 +7,18 @@ use Rattle.dash_base.specs.Topology.{IsSimple}
 use Rattle.dash_base.specs.declared.topology.Topology.{Topology}
 use Rattle.elf_load.specs.Image.{opening_word, word_among, byte_among}
 use Rattle.hart_core.specs.HartState.{HartState}
-use Rattle.hart_core.specs.Opening.{hart_count}
+use Rattle.dash_base.specs.Places.{hart_count}
 use Rattle.dash_event.specs.declared.access.Access.{Access}
 use Rattle.dash_event.specs.declared.step_record.StepRecord.{StepRecord}
 use Rattle.dash_event.specs.declared.step_record.StepRecord.TheVariants as step
 use Rattle.flat_model.specs.Labels.{IsOrdinary}
 use Rattle.flat_model.specs.State.{FlatState, opening_state}
-use Rattle.flat_model.specs.Step.{hart_of, IsFlatStep}
-use Rattle.flat_model.specs.Run.{AreSteps, IsSequentialRun}
+use Rattle.flat_model.specs.Step.{IsFlatStep}
+use Rattle.dash_event.specs.Effects.{hart_of}
+use Rattle.flat_model.specs.Run.{AreFlatSteps, IsSequentialRun}
 use Rattle.flat_model.specs.Order.{IsAccessAt, HappensBefore}
 use Rattle.flat_model.specs.Race.{IsRace, IsProperlyLabelled}
-use Rattle.flat_model.proofs.InRuns.{numbers_rise}
-use Rattle.flat_model.proofs.Ordered.{across}
+use Rattle.flat_model.proofs.LawsOffered.{numbers_rise, across}
 use Rattle.trace_merge.specs.WrittenLogs.{message_image}
 use Rattle.trace_merge.proofs.Facts.{three}
 use Rattle.trace_merge.proofs.Before.{same_hart}
@@ -46,7 +46,7 @@ module _ (t : Topology) (s : IsSimple 2 1 8 t) where
       subst (Holds (rs ++ r ∷ [])) (sym does.after)
       (record { harts = λ g' small. hart_after rs r old does.next g' (g' == g) refl k.hart (h.harts g' small); flag = k.flag; known = known })
 
-  all_hold : (done rs : List StepRecord) (old new : FlatState) → Holds done old → AreSteps message_image t old rs new → Holds (done ++ rs) new
+  all_hold : (done rs : List StepRecord) (old new : FlatState) → Holds done old → AreFlatSteps message_image t old rs new → Holds (done ++ rs) new
   all_hold done [] old new h steps = subst (λ rs. Holds rs new) (sym (append-nil done)) (subst (Holds done) (sym steps) h)
   all_hold done (r ∷ rs) old new h steps =
       subst (λ xs. Holds xs new) (append_assoc done (r ∷ []) rs) (all_hold (done ++ r ∷ []) rs steps.0 new (holds_after done old r steps.0 h steps.1) steps.2)

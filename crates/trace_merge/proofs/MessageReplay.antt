@@ -9,13 +9,14 @@ use Rattle.dash_base.specs.declared.ops.AmoOp.TheVariants.{Swap}
 use Rattle.dash_base.specs.declared.topology.Topology.{Topology}
 use Rattle.hart_core.specs.HartState.{HartState}
 use Rattle.hart_core.specs.Access.{placed}
-use Rattle.hart_core.specs.Opening.{hart_count, opening_hart}
+use Rattle.hart_core.specs.Opening.{opening_hart}
+use Rattle.dash_base.specs.Places.{hart_count}
 use Rattle.hart_core.specs.Meaning.{performed, instr_need}
-use Rattle.hart_core.specs.declared.need.Found.TheVariants.{This}
-use Rattle.hart_core.specs.declared.need.Need.TheVariants as needed
+use Rattle.hart_core.specs.declared.found.Found.TheVariants.{This}
+use Rattle.dash_base.specs.declared.need.Need.TheVariants as needed
 use Rattle.dash_event.specs.declared.event.Kind.{Kind}
 use Rattle.dash_event.specs.declared.event.Kind.TheVariants as kind
-use Rattle.flat_model.specs.Offered.{no_label, acquire_label, release_label}
+use Rattle.dash_event.specs.Offered.{no_label, acquire_label, release_label}
 use Rattle.dash_model.specs.Log.{IsEventAt}
 use Rattle.dash_model.specs.Replay.{Harts, Moves, Accesses, Replays, IsReplay}
 use Rattle.trace_merge.specs.WrittenLogs.{message_image, message_store, flag_release, flag_acquire, message_load, message_log}

@@ -15,18 +15,18 @@ use Rattle.rv32_alu.specs.Arithmetic.{moved_by}
 use Rattle.hart_core.specs.HartState.{HartState, reg}
 use Rattle.hart_core.specs.Access.{placed}
 use Rattle.hart_core.specs.Meaning.{IsFound, need_at, instr_need, jump_need, after_need, performed}
-use Rattle.hart_core.specs.declared.need.Found.{Found}
-use Rattle.hart_core.specs.declared.need.Found.TheVariants.{NoWord, This}
-use Rattle.hart_core.specs.declared.need.Need.{Need}
-use Rattle.hart_core.specs.declared.need.Need.TheVariants as needed
-use Rattle.hart_core.proofs.Unique.{one_found}
-use Rattle.hart_core.proofs.Needed.{zero_stays}
+use Rattle.hart_core.specs.declared.found.Found.{Found}
+use Rattle.hart_core.specs.declared.found.Found.TheVariants.{NoWord, This}
+use Rattle.dash_base.specs.declared.need.Need.{Need}
+use Rattle.dash_base.specs.declared.need.Need.TheVariants as needed
+use Rattle.hart_core.proofs.LawsOffered.{one_found, zero_stays}
 use Rattle.dash_event.specs.declared.access.Access.{Access}
 use Rattle.dash_event.specs.declared.step_record.StepRecord.{StepRecord}
 use Rattle.dash_event.specs.declared.step_record.StepRecord.TheVariants as step
-use Rattle.flat_model.specs.Offered.{all_bytes, bytes_under, no_label, acquire_label, release_label, offered}
+use Rattle.dash_event.specs.Offered.{all_bytes, bytes_under, no_label, acquire_label, release_label, offered}
 use Rattle.flat_model.specs.State.{FlatState}
-use Rattle.flat_model.specs.Step.{word_after, record_of, content, answer_of, IsFlatStep}
+use Rattle.flat_model.specs.Step.{record_of, content, IsFlatStep}
+use Rattle.dash_event.specs.Effects.{word_after, answer_of}
 use Rattle.trace_merge.specs.WrittenLogs.{message_image}
 use Rattle.trace_merge.proofs.MessageCode.{skip, write, release, acquire, again, read, skip_found, write_found, release_found, acquire_found, again_found, read_found, end_found, write_need, release_need, acquire_need, read_need}
 use Rattle.trace_merge.proofs.MessageRuns.{released_now, acquired_now, loaded_now, IsAcquired, IsKnown, known_store, known_flag, IsHartAt, skips, stores, releases, acquires, tests, loads, stops, IsHart, IsFlag, acquired_later, flag_later}

@@ -9,11 +9,12 @@ use Rattle.rv32_alu.specs.Arithmetic.{amo_value}
 use Rattle.dash_event.specs.declared.access.Access.{Access}
 use Rattle.dash_event.specs.declared.access.Op.{Op}
 use Rattle.dash_event.specs.declared.access.Op.TheVariants as op
-use Rattle.hart_core.specs.declared.need.Need.{Need}
-use Rattle.hart_core.specs.declared.need.Need.TheVariants.{Rest, Load, Store, Rmw, Ask, Unlock}
-use Rattle.flat_model.specs.Offered.{all_bytes, bytes_under, bare_access, offered}
+use Rattle.dash_base.specs.declared.need.Need.{Need}
+use Rattle.dash_base.specs.declared.need.Need.TheVariants.{Rest, Load, Store, Rmw, Ask, Unlock}
+use Rattle.dash_event.specs.Offered.{all_bytes, bytes_under, bare_access, offered}
 use Rattle.flat_model.specs.State.{FlatState}
-use Rattle.flat_model.specs.Step.{is_of_memory, IsPossible, content}
+use Rattle.flat_model.specs.Step.{IsPossible, content}
+use Rattle.dash_event.specs.Effects.{is_of_memory}
 
 -- on a state a hart with a need can do an access as its instruction of a number
 pub record CanDo (s : FlatState) (h n : ℕ) (need : Need) (a : Access) : Type 0 where

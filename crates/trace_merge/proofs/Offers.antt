@@ -6,10 +6,10 @@ use Rattle.dash_base.specs.declared.ops.AmoOp.TheVariants.{Sc}
 use Rattle.dash_event.specs.declared.access.Access.{Access}
 use Rattle.dash_event.specs.declared.access.Op.{Op}
 use Rattle.dash_event.specs.declared.access.Op.TheVariants as op
-use Rattle.hart_core.specs.declared.need.Need.{Need}
-use Rattle.hart_core.specs.declared.need.Need.TheVariants.{Load, Store, Rmw, Ask, Unlock}
+use Rattle.dash_base.specs.declared.need.Need.{Need}
+use Rattle.dash_base.specs.declared.need.Need.TheVariants.{Load, Store, Rmw, Ask, Unlock}
 use Rattle.flat_model.specs.Labels.{IsOrdinary}
-use Rattle.flat_model.specs.Offered.{all_bytes, offered}
+use Rattle.dash_event.specs.Offered.{all_bytes, offered}
 
 -- what a store offers
 pub record IsPlainStore (a : Access) : Type 0 where

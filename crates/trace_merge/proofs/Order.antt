@@ -5,9 +5,9 @@ use Rattle.dash_event.specs.declared.access.Access.{Access}
 use Rattle.dash_event.specs.declared.step_record.StepRecord.{StepRecord}
 use Rattle.dash_event.specs.declared.step_record.StepRecord.TheVariants as step
 use Rattle.flat_model.specs.Labels.{IsRelease}
-use Rattle.flat_model.specs.Step.{hart_of}
+use Rattle.dash_event.specs.Effects.{hart_of}
 use Rattle.flat_model.specs.Order.{IsAt, IsAccessAt, AreOfOneHart, AreReleaseAndAcquire, HappensBefore, directly, chained}
-use Rattle.flat_model.proofs.Ordered.{goes_forward}
+use Rattle.flat_model.proofs.LawsOffered.{goes_forward}
 
 -- a release of a hart stands at position i or later, and before position j
 pub record IsReleasedBetween (rs : List StepRecord) (i j : ℕ) (hart : HartId) : Type 0 where

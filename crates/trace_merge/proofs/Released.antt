@@ -12,7 +12,7 @@ use Rattle.dash_event.specs.declared.step_record.StepRecord.TheVariants as step
 use Rattle.flat_model.specs.Labels.{IsRelease, IsOrdinary}
 use Rattle.flat_model.specs.Order.{IsAccessAt, HappensBefore}
 use Rattle.flat_model.specs.Race.{MasksMeet, IsRaceFree}
-use Rattle.flat_model.proofs.Ordered.{goes_forward}
+use Rattle.flat_model.proofs.LawsOffered.{goes_forward}
 use Rattle.dash_model.specs.Log.{IsEventAt}
 use Rattle.trace_merge.proofs.Places.{IsSmall, upto, InEither, in_either, in_left, at_end, from_place, at_place, before_place}
 use Rattle.trace_merge.proofs.Order.{IsReleasedBetween, parted}

@@ -1,4 +1,4 @@
--- An SC that succeeds in a followed log has its word reserved in the sequential machine.
+-- An SC that succeeds in an admissible log has its word reserved in the sequential machine.
 use Rattle.std.proofs.Common.{◌≡◌, ◌≢◌, ◌<◌, ℕ, List, [], ◌∷◌, ◌++◌, length, Option, Some, None, refl, sym, ◌∙◌, ap, arith}
 use Rattle.std.specs.Prelude.{IsSome}
 use Rattle.dash_base.specs.declared.topology.Topology.{Topology}
@@ -10,17 +10,16 @@ use Rattle.dash_event.specs.declared.event.Event.{Event}
 use Rattle.dash_event.specs.declared.event.Kind.{Kind}
 use Rattle.dash_event.specs.declared.event.Kind.TheVariants as kind
 use Rattle.dash_event.specs.declared.step_record.StepRecord.TheVariants as step
-use Rattle.flat_model.specs.Offered.{all_bytes}
+use Rattle.dash_event.specs.Offered.{all_bytes}
 use Rattle.flat_model.specs.State.{FlatState}
 use Rattle.flat_model.specs.Step.{IsFlatStep}
 use Rattle.flat_model.specs.Run.{RunsTo}
 use Rattle.flat_model.specs.Race.{IsRaceFree}
 use Rattle.flat_model.specs.Order.{IsAccessAt}
 use Rattle.flat_model.specs.Reserved.{IsReserved}
-use Rattle.flat_model.proofs.Offers.{is_offered}
-use Rattle.flat_model.proofs.Reservations.{cond_finds, cond_may_succeed}
+use Rattle.flat_model.proofs.LawsOffered.{is_offered, cond_finds, cond_may_succeed}
 use Rattle.dash_model.specs.Log.{IsEventAt}
-use Rattle.dash_model.specs.Followed.{IsReservedBefore, IsFollowed}
+use Rattle.dash_model.specs.Admissible.{IsReservedBefore, IsAdmissible}
 use Rattle.trace_merge.proofs.Places.{from_place, at_place, place_before, before_place}
 use Rattle.trace_merge.proofs.Offers.{has_each}
 use Rattle.trace_merge.proofs.Released.{small_records, steps}
@@ -48,7 +47,7 @@ pub some_value : (o : Option ℕ) → IsSome o → (value : ℕ) × (o ≡ Some 
 some_value None wrote = absurd cc
 some_value (Some value) wrote = (value, refl)
 
-module _ (image : ImageView) (t : Topology) (log : List Event) (f : IsFollowed image t log) where
+module _ (image : ImageView) (t : Topology) (log : List Event) (f : IsAdmissible image t log) where
   -- the failing SC r stands last, in place of the succeeding one
   pub record IsFailing (n : ℕ) (a r : Access) : Type 0 where
     pub race_free : IsRaceFree (steps log n ++ step.Access r ∷ [])

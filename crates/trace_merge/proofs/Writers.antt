@@ -7,20 +7,20 @@ use Rattle.dash_base.specs.declared.id.LineId.{LineId}
 use Rattle.dash_base.specs.declared.id.WordAddr.{WordAddr}
 use Rattle.dash_base.specs.declared.topology.Topology.{Topology}
 use Rattle.elf_load.specs.Image.{ImageView}
-use Rattle.dash_event.specs.Places.{line_of}
+use Rattle.dash_base.specs.Places.{line_of}
 use Rattle.dash_event.specs.Records.{unseen, records_in}
 use Rattle.dash_event.specs.declared.access.Access.{Access}
 use Rattle.dash_event.specs.declared.event.Event.{Event}
 use Rattle.dash_event.specs.declared.event.Kind.{Kind}
 use Rattle.dash_event.specs.declared.event.Kind.TheVariants as kind
 use Rattle.dash_event.specs.declared.step_record.StepRecord.TheVariants as step
-use Rattle.flat_model.specs.Offered.{bytes_under}
-use Rattle.flat_model.specs.Step.{is_of_memory}
+use Rattle.dash_event.specs.Offered.{bytes_under}
+use Rattle.dash_event.specs.Effects.{is_of_memory}
 use Rattle.flat_model.specs.Race.{IsRaceFree}
 use Rattle.flat_model.specs.LastBefore.{WritesByte}
 use Rattle.dash_model.specs.Log.{IsEventAt, Commits, commit_in, commits_before}
 use Rattle.dash_model.specs.LineContent.{committed, store_of}
-use Rattle.dash_model.specs.Followed.{IsFollowed}
+use Rattle.dash_model.specs.Admissible.{IsAdmissible}
 use Rattle.trace_merge.proofs.Released.{steps}
 use Rattle.trace_merge.proofs.Facts.{one_event, replays, store_found}
 use Rattle.trace_merge.proofs.Before.{load_writes_nothing, shape_of, IsWritten, by_store, by_rmw}
@@ -51,7 +51,7 @@ counts line hart v (kind.Commit g n l u) c = counted_by l line (kind.Commit g n 
 counts line hart v (kind.Rmw a l u) c = counted_by l line (kind.Rmw a l u) c.1
 counts line hart v k c = elim c [ ]
 
-module _ (image : ImageView) (t : Topology) (log : List Event) (f : IsFollowed image t log) where
+module _ (image : ImageView) (t : Topology) (log : List Event) (f : IsAdmissible image t log) where
   -- the event at a position wrote memory
   pub data IsWrite (i : ℕ) (a : Access) : Type 0 where
     a_store : IsEventAt log i (kind.Store a) → IsWrite i a

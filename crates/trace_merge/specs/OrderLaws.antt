@@ -4,19 +4,19 @@ use Rattle.dash_base.specs.declared.topology.Topology.{Topology}
 use Rattle.elf_load.specs.Image.{ImageView}
 use Rattle.dash_event.specs.Records.{console_of, records_of}
 use Rattle.dash_event.specs.declared.event.Event.{Event}
-use Rattle.hart_core.specs.Opening.{hart_count}
+use Rattle.dash_base.specs.Places.{hart_count}
 use Rattle.flat_model.specs.State.{FlatState}
 use Rattle.flat_model.specs.Run.{RunsTo, IsSequentialRun}
 use Rattle.flat_model.specs.Race.{IsProperlyLabelled}
-use Rattle.dash_model.specs.Followed.{IsFollowed}
+use Rattle.dash_model.specs.Admissible.{IsAdmissible}
 
--- where an image is properly labelled, each followed log has its records in the order of a sequential run
+-- where an image is properly labelled, each admissible log has its records in the order of a sequential run
 abbrev pub CommitOrder : Type 0
-CommitOrder = (image : ImageView) (t : Topology) (log : List Event) → IsProperlyLabelled image t → IsFollowed image t log → IsSequentialRun image t (records_of log)
+CommitOrder = (image : ImageView) (t : Topology) (log : List Event) → IsProperlyLabelled image t → IsAdmissible image t log → IsSequentialRun image t (records_of log)
 
 -- one hart reads what it wrote, whatever the image
 abbrev pub OneHartIsInOrder : Type 0
-OneHartIsInOrder = (image : ImageView) (t : Topology) (log : List Event) → hart_count t ≡ 1 → IsFollowed image t log → IsSequentialRun image t (records_of log)
+OneHartIsInOrder = (image : ImageView) (t : Topology) (log : List Event) → hart_count t ≡ 1 → IsAdmissible image t log → IsSequentialRun image t (records_of log)
 
 -- a run of the records of a log leaves the console of the log
 abbrev pub ConsoleIsTheRuns : Type 0

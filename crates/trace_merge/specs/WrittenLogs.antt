@@ -1,4 +1,4 @@
--- Written images and logs, which are followed.
+-- Written images and logs, which are admissible.
 use Rattle.std.specs.Prelude.{ℕ, List, [], ◌∷◌, length, Some, None}
 use Rattle.dash_base.specs.Topology.{IsSimple}
 use Rattle.dash_base.specs.declared.topology.Topology.{Topology}
@@ -10,10 +10,10 @@ use Rattle.dash_event.specs.declared.access.Seen.TheVariants.{Line, Own, Nothing
 use Rattle.dash_event.specs.declared.event.Event.{Event}
 use Rattle.dash_event.specs.declared.event.Kind.{Kind}
 use Rattle.dash_event.specs.declared.event.Kind.TheVariants.{Alu, Load, Store, Commit, Rmw}
-use Rattle.flat_model.specs.Offered.{no_label, acquire_label, release_label}
+use Rattle.dash_event.specs.Offered.{no_label, acquire_label, release_label}
 use Rattle.flat_model.specs.Run.{IsSequentialRun}
 use Rattle.flat_model.specs.Race.{IsProperlyLabelled}
-use Rattle.dash_model.specs.Followed.{IsFollowed}
+use Rattle.dash_model.specs.Admissible.{IsAdmissible}
 
 -- an image of one segment at 4096, which may be read and executed
 abbrev pub code : List ℕ → ImageView
@@ -48,9 +48,9 @@ forwarding_log =
     ∷ event_at 4 0 (Load committed_load 1)
     ∷ []
 
--- on a machine of one hart it is followed
-abbrev pub ForwardingIsFollowed : Type 0
-ForwardingIsFollowed = (t : Topology) → IsSimple 1 1 8 t → IsFollowed forwarding_image t forwarding_log
+-- on a machine of one hart it is admissible
+abbrev pub ForwardingIsAdmissible : Type 0
+ForwardingIsAdmissible = (t : Topology) → IsSimple 1 1 8 t → IsAdmissible forwarding_image t forwarding_log
 
 -- bne a0, zero, 12; sw a1, 64(zero); amoswap.w.rl zero, a1, (zero); lr.w.aq a2, (zero); beq a2, zero, -4; lw a3, 64(zero): hart 0 writes a message and sets the flag, and hart 1 waits for the flag and reads the message
 abbrev pub message_image : ImageView
@@ -87,9 +87,9 @@ message_log =
     ∷ event_at 8 1 (Load message_load 1)
     ∷ []
 
--- on a machine of two clusters of one hart it is followed
-abbrev pub MessageIsFollowed : Type 0
-MessageIsFollowed = (t : Topology) → IsSimple 2 1 8 t → IsFollowed message_image t message_log
+-- on a machine of two clusters of one hart it is admissible
+abbrev pub MessageIsAdmissible : Type 0
+MessageIsAdmissible = (t : Topology) → IsSimple 2 1 8 t → IsAdmissible message_image t message_log
 
 -- there the image is properly labelled
 abbrev pub MessageIsProperlyLabelled : Type 0

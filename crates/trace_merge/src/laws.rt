@@ -1,14 +1,15 @@
 //! Laws of logs. The functions do nothing: their contracts are the laws.
 ghost use Rattle.trace_merge.specs.OrderLaws.{CommitOrder, OneHartIsInOrder, ConsoleIsTheRuns};
-ghost use Rattle.trace_merge.specs.WrittenLogs.{ForwardingIsFollowed, MessageIsFollowed, MessageIsProperlyLabelled, MessageIsInOrder};
+ghost use Rattle.trace_merge.specs.WrittenLogs.{ForwardingIsAdmissible, MessageIsAdmissible, MessageIsProperlyLabelled, MessageIsInOrder};
 
-/// Where no sequential run of an image has a race, the records of every followed log, each at its order
-/// point, are a sequential run within the budgets.
+/// Where no sequential run of an image has a data race, the records of every admissible log, each at its
+/// order point, are a sequential run within the budgets. A law of this kind is known as DRF-SC: programs
+/// that are free of data races see sequential consistency.
 pub fn commit_order()
     ensures { CommitOrder }
 {}
 
-/// On a machine of one hart the records of every followed log are a sequential run, whatever the image.
+/// On a machine of one hart the records of every admissible log are a sequential run, whatever the image.
 pub fn one_hart_is_in_order()
     ensures { OneHartIsInOrder }
 {}
@@ -18,16 +19,16 @@ pub fn console_is_the_runs()
     ensures { ConsoleIsTheRuns }
 {}
 
-/// A written log is followed in which a hart loads its own store, commits it, and loads the version
+/// A written log is admissible in which a hart loads its own store, commits it, and loads the version
 /// that it made.
-pub fn forwarding_is_followed()
-    ensures { ForwardingIsFollowed }
+pub fn forwarding_is_admissible()
+    ensures { ForwardingIsAdmissible }
 {}
 
-/// A written log of message passing is followed: one hart writes a message and then the flag by a
+/// A written log of message passing is admissible: one hart writes a message and then the flag by a
 /// release, and another reads the flag by an acquire and then the message.
-pub fn message_is_followed()
-    ensures { MessageIsFollowed }
+pub fn message_is_admissible()
+    ensures { MessageIsAdmissible }
 {}
 
 /// The image of that log is properly labelled on a machine of two harts.

@@ -1,4 +1,4 @@
-use Rattle.cache_array.proofs.Lines.{room_without_other}
+use Rattle.cache_array.proofs.LawsOffered.{room_without_other}
 use Rattle.cache_levels.proofs.Parts.{replaces_other, replaces_none}
 use Rattle.cache_levels.proofs.replace.replace.Goals as goal
 use Rattle.cache_levels.proofs.replace.replace.Goals.{in-Some, in_default}

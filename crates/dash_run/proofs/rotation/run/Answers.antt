@@ -1,6 +1,6 @@
 use Rattle.std.proofs.Common.{ℕ, List, []}
 use Rattle.dash_run.specs.Turns.{IsUnderWay}
-use Rattle.std.proofs.Common.{sym, subst}
+use Rattle.std.proofs.Common.{sym, subst, arith}
 use Rattle.dash_event.specs.declared.event.Event.{Event}
 use Rattle.dash_run.proofs.Turns.{ended_now, opened, some_harts}
 use Rattle.dash_run.proofs.rotation.run.Goals as goal
@@ -21,4 +21,4 @@ turns-init c =
 pub returns : goal.returns
 returns c =
     ended_now c.args.image.now c.args.topology.now c.turns.machine c.into_harts.result.items c.turns.console.items c.turns.log.items c.turns.next c.turns.idle
-    c.turns.invariant.1 c.turns-test.false c.turns.invariant.0 c.into_harts.ensures
+    c.turns.invariant.1 (omega (arith, c.turns-test.false, c.hart_count-count.ensures)) c.turns.invariant.0 c.into_harts.ensures

@@ -1,10 +1,10 @@
 use Rattle.std.proofs.Common.{◌<◌}
-use Rattle.hart_core.specs.Opening.{hart_count}
-use Rattle.flat_model.specs.Held.{IsSized}
+use Rattle.dash_base.specs.Places.{hart_count}
+use Rattle.flat_model.specs.Represents.{IsSized}
 use Rattle.dash_run.specs.Turns.{IsUnderWay, turns_left}
 use Rattle.dash_run.proofs.rotation.run.Given as goal
 
--- what has been done so far is a run of the plain machine
+-- what has been done so far is a run of the sequential machine
 abbrev pub invariant-turns : goal.invariant-turns
 invariant-turns l =
     IsUnderWay l.image l.topology l.machine l.console.items l.log.items l.next l.idle

@@ -1,8 +1,8 @@
 use Rattle.std.proofs.Common.{◌≡◌, ◌+◌, length, [], ◌∷◌, ◌++◌}
-use Rattle.hart_core.specs.Opening.{hart_count}
+use Rattle.dash_base.specs.Places.{hart_count}
 use Rattle.dash_run.specs.Turns.{IsUnderWay, turn_after}
 use Rattle.std.proofs.Common.{sym, ◌∙◌, ap, subst}
-use Rattle.flat_model.specs.Held.{MachineView}
+use Rattle.flat_model.specs.Represents.{MachineView}
 use Rattle.dash_run.specs.Log.{event_of}
 use Rattle.dash_run.proofs.Turns.{passed_on, stepped_on}
 use Rattle.dash_run.proofs.rotation.take_turn.Goals as goal

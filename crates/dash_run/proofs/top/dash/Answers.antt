@@ -8,7 +8,7 @@ returns g c =
     record {
       outcome = ends;
       usage = usage_cause _ _ _ _ _ _ _ ends;
-      misshapen = misshapen_cause _ _ _ _ _ _ _ ends;
+      bad_topology = misshapen_cause _ _ _ _ _ _ _ ends;
       refused = refused_cause _ _ _ _ _ _ _ ends;
       fault = fault_cause _ _ _ _ _ _ _ ends;
       ran = run_cause _ _ _ _ _ _ _ ends;

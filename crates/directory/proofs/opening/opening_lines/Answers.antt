@@ -1,4 +1,5 @@
 use Rattle.std.proofs.Common.{ℕ, ◌≡◌, ◌+◌, ◌-◌, ◌*◌, ◌/◌, length, map, ap, ◌++◌, ◌∷◌, [], sym, ◌∙◌, arith}
+use Rattle.std.specs.Int.{div_ceil}
 use Rattle.std.specs.List.{range_with_len}
 use Rattle.std.proofs.lemmas.List.FromFn.{length-map-range_with_len, map-range_with_len_more}
 use Rattle.directory.specs.declared.home_line.HomeLine.{HomeLine}
@@ -8,8 +9,9 @@ use Rattle.directory.proofs.opening.opening_lines.Goals as goal
 
 pub opening_line-requires : goal.opening_line-requires
 opening_line-requires c =
-    let under = place_below (c.args.topology.now.memory / 16 - c.args.cluster.0) c.args.topology.now.clusters _ c.loop-place.place (omega (arith, c.requires)) c.div_ceil-count.ensures c.loop-place-test.true in
-    omega (arith, under)
+    let lines = c.line_count.ensures in
+    let under = place_below (c.line_count.result - c.args.cluster.0) c.args.topology.now.clusters _ c.loop-place.place (omega (arith, c.requires)) c.div_ceil-count.ensures c.loop-place-test.true in
+    omega (arith, under, lines)
 
 pub loop-place-preserved : goal.loop-place-preserved
 loop-place-preserved c =
@@ -32,4 +34,4 @@ returns-clause-all c =
     let all : c.loop-place.place ≡ c.div_ceil-count.result = omega (arith, c.loop-place.auto.place-end, c.loop-place-test.false) in
     kept_lines _ c.args.topology.now.clusters (c.args.topology.now.memory / 16) c.div_ceil-count.result _ c.requires c.args.topology.now.clusters_in_range.high
     (omega (arith, c.requires, c.args.topology.now.memory_in_range.low, c.args.topology.now.clusters_in_range.high))
-    (omega (arith, c.args.topology.now.memory_in_range.high)) c.div_ceil-count.ensures (long ∙ all)
+    (omega (arith, c.args.topology.now.memory_in_range.high)) (c.div_ceil-count.ensures ∙ ap (λ n. div_ceil (n - c.args.cluster.0) c.args.topology.now.clusters) c.line_count.ensures) (long ∙ all)

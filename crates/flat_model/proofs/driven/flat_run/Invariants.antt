@@ -1,5 +1,5 @@
 use Rattle.std.proofs.Common.{map, take}
-use Rattle.flat_model.specs.Held.{IsSized}
+use Rattle.flat_model.specs.Represents.{IsSized}
 use Rattle.flat_model.specs.FlatEnd.{IsReached}
 use Rattle.flat_model.proofs.driven.flat_run.Given as goal
 

@@ -2,4 +2,4 @@ use Rattle.trace_merge.proofs.Law.{is_sequential}
 use Rattle.trace_merge.proofs.laws.commit_order.Goals as goal
 
 pub returns : goal.returns
-returns c = λ image t log labelled followed. is_sequential image t log followed labelled
+returns c = λ image t log labelled admissible. is_sequential image t log admissible labelled

@@ -1,6 +1,6 @@
-use Rattle.flat_model.proofs.InRuns.{one_hart}
+use Rattle.flat_model.proofs.LawsOffered.{one_hart}
 use Rattle.trace_merge.proofs.Law.{is_sequential}
 use Rattle.trace_merge.proofs.laws.one_hart_is_in_order.Goals as goal
 
 pub returns : goal.returns
-returns c = λ image t log one followed. is_sequential image t log followed (λ rs run i j race. one_hart image t one rs run i j race)
+returns c = λ image t log one admissible. is_sequential image t log admissible (λ rs run i j race. one_hart image t one rs run i j race)

@@ -8,12 +8,12 @@ returns-in-Rest-clause-idle c = λ s held.
     (hart_found c.args.topology.now _ c.args.self.now c.args.hart.0 c.index-own.result.now c.self.view_is c.requires.sized c.requires.in_range c.index-own.ensures)
     (c.next-need.ensures.rest.0 c.in-Rest.is) held
 
-pub returns-then-asks_in_vain-clause-idle : goal.returns-then-asks_in_vain-clause-idle
-returns-then-asks_in_vain-clause-idle c = λ s held.
+pub returns-then-is_blocked-clause-idle : goal.returns-then-is_blocked-clause-idle
+returns-then-is_blocked-clause-idle c = λ s held.
     waits_idle c.args.image.now c.args.topology.now c.args.self.now c.args.hart.0 c.index-own.result.now c.next-need.result s c.requires.in_range
     (hart_found c.args.topology.now _ c.args.self.now c.args.hart.0 c.index-own.result.now c.self.view_is c.requires.sized c.requires.in_range c.index-own.ensures)
     (needs_of_next c.args.image.now c.args.topology.now c.index-own.result.now c.next-need.result (goes_on c.args.topology.now c.index-own.result.now c.next-need.result c.next-need.ensures.rest c.in_default.not-Rest) c.next-need.ensures.next)
-    (sym (c.asks_in_vain.ensures s held) ∙ c.if-asks_in_vain.true) held
+    (sym (c.is_blocked.ensures s held) ∙ c.if-is_blocked.true) held
 
 pub returns-clause-due : goal.returns-clause-due
 returns-clause-due c = record {
@@ -22,7 +22,7 @@ returns-clause-due c = record {
   needs = needs_of_next c.args.image.now c.args.topology.now c.index-own.result.now c.next-need.result
       (goes_on c.args.topology.now c.index-own.result.now c.next-need.result c.next-need.ensures.rest c.in_default.not-Rest) c.next-need.ensures.next;
   pc_is = c.pc.ensures;
-  possible = λ s held. sym (c.asks_in_vain.ensures s held) ∙ c.if-asks_in_vain.false;
+  possible = λ s held. sym (c.is_blocked.ensures s held) ∙ c.if-is_blocked.false;
   recorded = λ s held.
       recorded_from s c.args.hart.0 _ c.next-need.result c.record_of-record.result c.offer-access.result c.retired.result c.content-content.result c.succeeds-succeeds.result
       c.retired.ensures c.record_of-record.ensures c.offer-access.ensures (c.content-content.ensures s held) (c.succeeds-succeeds.ensures s held);

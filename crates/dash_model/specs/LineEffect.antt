@@ -4,13 +4,13 @@ use Rattle.dash_msg.specs.declared.parcel.Sent.{Sent}
 use Rattle.dash_model.specs.Cell.{Copy, NoCopy, Held, Refused, Slot, NoSlot, Reads, Owns, Acks, NoAcks, Cell, Home}
 
 -- the cell, the home and the messages
-pub record Did : Type 0 where
+pub record LineEffect : Type 0 where
   pub cell : Cell
   pub home : Home
   pub sent : List Sent
 
 -- nothing changes and nothing is sent
-abbrev pub still : Cell → Home → Did
+abbrev pub still : Cell → Home → LineEffect
 still a b = record { cell = a; home = b; sent = [] }
 
 -- refusing a slot: a front or store slot, whose number is below k, gets phase Refused, and a prefetch slot is closed

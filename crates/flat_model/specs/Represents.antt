@@ -5,8 +5,8 @@ use Rattle.dash_base.specs.declared.topology.Topology.{Topology}
 use Rattle.elf_load.specs.Image.{ImageView}
 use Rattle.dash_event.specs.declared.step_record.StepRecord.{StepRecord}
 use Rattle.hart_core.specs.HartState.{HartState, is_running}
-use Rattle.hart_core.specs.Opening.{hart_count}
-use Rattle.hart_core.specs.declared.need.Need.{Need}
+use Rattle.dash_base.specs.Places.{hart_count}
+use Rattle.dash_base.specs.declared.need.Need.{Need}
 use Rattle.flat_model.specs.State.{FlatState}
 use Rattle.flat_model.specs.Driven.{IsEagerStep}
 
@@ -29,7 +29,7 @@ pub record IsSized (t : Topology) (m : MachineView) : Type 0 where
   pub locks_whole : length m.locks ≡ t.locks
 
 -- these lists are those of a state
-pub record IsHeld (t : Topology) (m : MachineView) (s : FlatState) : Type 0 where
+pub record Represents (t : Topology) (m : MachineView) (s : FlatState) : Type 0 where
   pub harts_are : m.harts ≡ harts_of t s
   pub reservations_are : m.reservations ≡ map (λ h. s.reservations h) (range_with_len 0 (hart_count t))
   pub memory_whole : 4 * length m.memory ≡ t.memory
@@ -51,4 +51,4 @@ pub record IsDone (image : ImageView) (t : Topology) (s : FlatState) (h : ℕ) (
   pub does : IsEagerStep image t s h r new
   pub need_is : need ≡ does.step.need
   pub pc_is : pc ≡ (s.harts h).pc
-  pub held : IsHeld t after new
+  pub held : Represents t after new

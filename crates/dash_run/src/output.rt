@@ -5,7 +5,7 @@ use std::alloc::Global;
 
 /// What a call owes when nothing more fails: an exit status, and text on one stream.
 #[derive(Drop)]
-pub enum Owed {
+pub enum Output {
     /// Status 2, and the usage line on standard error.
     Usage,
     /// A line on standard error.
@@ -23,25 +23,25 @@ pub enum Owed {
     },
 }
 
-impl Owed {
+impl Output {
     ghost use Rattle.std.specs.Prelude.{◌≡◌};
-    ghost use Rattle.dash_run.specs.Owed.{owed_status, owed_log};
+    ghost use Rattle.dash_run.specs.Output.{output_status, output_log};
 
     pub fn status(&self) -> u8
-        ensures { result ≡ owed_status self.now }
+        ensures { result ≡ output_status self.now }
     {
         match self {
-            Owed::Usage => 2,
-            Owed::Line { status, .. } | Owed::Report { status, .. } => *status,
+            Output::Usage => 2,
+            Output::Line { status, .. } | Output::Report { status, .. } => *status,
         }
     }
 
     /// The log of the run, or an empty one where none was made.
     pub fn into_log(self, alloc: Global) -> Vec<Event>
-        ensures { result.items ≡ owed_log self }
+        ensures { result.items ≡ output_log self }
     {
         match self {
-            Owed::Report { log, .. } => log,
+            Output::Report { log, .. } => log,
             _ => Vec::new(alloc),
         }
     }

@@ -11,32 +11,32 @@ use Rattle.elf_load.specs.Refusal.{IsFirstRefusal, IsLoadable}
 use Rattle.elf_load.specs.declared.memory_map.MemoryMap.{MemoryMap}
 use Rattle.elf_load.specs.declared.refusal.LoadRefusal.{LoadRefusal}
 use Rattle.flat_model.specs.State.{FlatState}
-use Rattle.flat_model.specs.Held.{harts_of}
-use Rattle.dash_run.specs.declared.owed.Owed.{Owed}
-use Rattle.dash_run.specs.declared.owed.Owed.TheVariants.{Usage, Line, Report}
+use Rattle.flat_model.specs.Represents.{harts_of}
+use Rattle.dash_run.specs.declared.output.Output.{Output}
+use Rattle.dash_run.specs.declared.output.Output.TheVariants.{Usage, Line, Report}
 use Rattle.dash_run.specs.CommandLine.{Request}
-use Rattle.dash_run.specs.Log.{IsPlainRun}
+use Rattle.dash_run.specs.Log.{IsRotationRun}
 use Rattle.dash_run.specs.Report.{report_of, status_of}
 use Rattle.dash_run.specs.Outcome.{usage_line, topology_line, refusal_line, IsRefusedTopology, IsRefused, IsReported}
 
-abbrev pub owed_status : Owed → ℕ
-owed_status Usage = 2
-owed_status (Line status text) = status
-owed_status (Report status console harts accesses log) = status
+abbrev pub output_status : Output → ℕ
+output_status Usage = 2
+output_status (Line status text) = status
+output_status (Report status console harts accesses log) = status
 
-abbrev pub owed_stream : Owed → Stream
-owed_stream Usage = stream.Err
-owed_stream (Line status text) = stream.Err
-owed_stream (Report status console harts accesses log) = stream.Out
+abbrev pub output_stream : Output → Stream
+output_stream Usage = stream.Err
+output_stream (Line status text) = stream.Err
+output_stream (Report status console harts accesses log) = stream.Out
 
-abbrev pub owed_text : Owed → List ℕ
-owed_text Usage = usage_line
-owed_text (Line status text) = string_bytes text
-owed_text (Report status console harts accesses log) = console.items ++ string_bytes harts ++ string_bytes accesses
+abbrev pub output_text : Output → List ℕ
+output_text Usage = usage_line
+output_text (Line status text) = string_bytes text
+output_text (Report status console harts accesses log) = console.items ++ string_bytes harts ++ string_bytes accesses
 
-abbrev pub owed_log : Owed → List Event
-owed_log (Report status console harts accesses log) = log.items
-owed_log _ = []
+abbrev pub output_log : Output → List Event
+output_log (Report status console harts accesses log) = log.items
+output_log _ = []
 
 -- the line for a topology that is refused
 pub record IsTopologyLine (q : Request) (status : ℕ) (text : List ℕ) : Type 0 where
@@ -53,7 +53,7 @@ pub record IsRefusalLine (q : Request) (bytes : List ℕ) (status : ℕ) (text :
   pub text_is : text ≡ refusal_line refusal
 
 -- what is owed for an image with these bytes
-abbrev pub IsAnswer : Request → List ℕ → Owed → Type 0
+abbrev pub IsAnswer : Request → List ℕ → Output → Type 0
 IsAnswer q bytes Usage = ⊥
 IsAnswer q bytes (Line status text) = IsTopologyLine q status (string_bytes text) ⊎ IsRefusalLine q bytes status (string_bytes text)
 IsAnswer q bytes (Report status console harts accesses log) =
@@ -62,12 +62,12 @@ IsAnswer q bytes (Report status console harts accesses log) =
 -- the report of an image's run
 pub record IsRunReport (image : ImageView) (t : Topology) (status : ℕ) (text : List ℕ) (log : List Event) : Type 0 where
   pub state : FlatState
-  pub run : IsPlainRun image t log state
+  pub run : IsRotationRun image t log state
   pub is_status : status ≡ status_of t (harts_of t state)
   pub is_text : text ≡ report_of t state log
 
 -- what is owed is that report
-abbrev pub IsReport : ImageView → Topology → Owed → Type 0
+abbrev pub IsReport : ImageView → Topology → Output → Type 0
 IsReport image t (Report status console harts accesses log) =
     IsRunReport image t status (console.items ++ string_bytes harts ++ string_bytes accesses) log.items
 IsReport image t _ = ⊥
@@ -82,14 +82,14 @@ pub record IsRefusalOn (t : Topology) (bytes : List ℕ) (status : ℕ) (text : 
   pub status_is : status ≡ 3
   pub text_is : text ≡ refusal_line refusal
 
-pub record IsReportOn (t : Topology) (bytes : List ℕ) (owed : Owed) : Type 0 where
+pub record IsReportOn (t : Topology) (bytes : List ℕ) (owed : Output) : Type 0 where
   pub map : MemoryMap
   pub base : map.base ≡ t.base
   pub size : map.size ≡ t.memory
   pub accepted : IsLoadable bytes map
   pub report : IsReport (image_of bytes) t owed
 
-abbrev pub IsAnswerOn : Topology → List ℕ → Owed → Type 0
+abbrev pub IsAnswerOn : Topology → List ℕ → Output → Type 0
 IsAnswerOn t bytes Usage = ⊥
 IsAnswerOn t bytes (Line status text) = IsRefusalOn t bytes status (string_bytes text)
 IsAnswerOn t bytes (Report status console harts accesses log) = IsReportOn t bytes (Report status console harts accesses log)

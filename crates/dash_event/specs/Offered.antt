@@ -10,8 +10,8 @@ use Rattle.dash_event.specs.declared.access.Op.{Op}
 use Rattle.dash_event.specs.declared.access.Op.TheVariants as op
 use Rattle.dash_event.specs.declared.access.Seen.TheVariants.{Nothing}
 use Rattle.rv32_alu.specs.Arithmetic.{amo_value}
-use Rattle.hart_core.specs.declared.need.Need.{Need}
-use Rattle.hart_core.specs.declared.need.Need.TheVariants.{Load, Store, Rmw, Ask, Unlock}
+use Rattle.dash_base.specs.declared.need.Need.{Need}
+use Rattle.dash_base.specs.declared.need.Need.TheVariants.{Load, Store, Rmw, Ask, Unlock}
 
 -- the mask of all four bytes of a word
 abbrev pub all_bytes : ℕ

@@ -1,16 +1,20 @@
-//! What a hart finds at its pc, and what it needs to go on.
+//! What a hart needs from outside to do an instruction.
 
-use dash_base::{AmoOp, End, Instr, Labels, Mask, WordAddr};
-use rv32_decode::HintKind;
+use crate::end::End;
+use crate::id::WordAddr;
+use crate::instr::Labels;
+use crate::mask::Mask;
+use crate::ops::AmoOp;
 
-/// What stands at an address.
+/// What a prefetch prepares for.
 #[derive(Clone, Copy, Debug, PartialEq, Eq)]
-pub enum Found {
-    /// Its four bytes are not all in one executable segment.
-    NoWord,
-    /// A word that is no instruction.
-    NoInstr(u32),
-    This(Instr),
+pub enum HintKind {
+    /// Fetches of instructions: prefetch.i.
+    Fetch,
+    /// Reads, beside other readers: prefetch.r.
+    Shared,
+    /// Writes: prefetch.w.
+    Exclusive,
 }
 
 /// What a hart needs for its next instruction.

@@ -11,7 +11,7 @@ use Rattle.dash_event.specs.declared.event.Event.{Event}
 use Rattle.dash_event.specs.declared.event.Kind.{Kind}
 use Rattle.dash_event.specs.declared.event.Kind.TheVariants as kind
 use Rattle.dash_event.specs.declared.step_record.StepRecord.{StepRecord}
-use Rattle.flat_model.specs.Step.{hart_of}
+use Rattle.dash_event.specs.Effects.{hart_of}
 use Rattle.dash_model.specs.Log.{IsEventAt, IsAccessEvent, IsRecordEvent}
 use Rattle.dash_model.specs.Coherent.{IsCoherent}
 use Rattle.dash_model.specs.Release.{StoresAreCommitted, ReleasesAreSeen, AtomicsAreSeen}
@@ -45,8 +45,8 @@ pub record IsSentBefore (log : List Event) (i : ℕ) (a : Access) : Type 0 where
   pub before : at < i
   pub quiet : (j : ℕ) (r : StepRecord) → IsRecordEvent log j r → hart_of r ≡ a.hart → at < j → ¬ (j < i)
 
--- a followed log: it replays, is coherent, keeps what of the release rule is seen in it, lets an SC succeed only by its reservation, and frees a lock word only for an Unlock that was sent
-pub record IsFollowed (image : ImageView) (t : Topology) (log : List Event) : Type 0 where
+-- an admissible log: it replays, is coherent, keeps what of the release rule is seen in it, lets an SC succeed only by its reservation, and frees a lock word only for an Unlock that was sent
+pub record IsAdmissible (image : ImageView) (t : Topology) (log : List Event) : Type 0 where
   pub harts : ℕ → Harts
   pub replay : IsReplay image t log harts
   pub coherent : IsCoherent image t log
