@@ -32,3 +32,5 @@ pub mod Merge
 pub mod Local
 pub mod Prefix
 pub mod Numbered
+pub mod InRuns
+pub mod Nowhere

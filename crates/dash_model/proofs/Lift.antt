@@ -44,7 +44,7 @@ test_true : (c : ℕ) → (c == c) ≡ true
 test_true c = grind (arith, nat_tests)
 
 -- what leaves its lane where no message of a line is taken
-taken_off : (l c u : ℕ) (e : Kind) (net : List Packet) → IsNoTake e → AtHead (taken c u e) net → on l (less (taken c u e) net) ≡ on l net
+pub taken_off : (l c u : ℕ) (e : Kind) (net : List Packet) → IsNoTake e → AtHead (taken c u e) net → on l (less (taken c u e) net) ≡ on l net
 taken_off l c u (kind.Free f a) net t h = on-tail-off l f.0 c Request (parcel f.0 c (Unlock a.hart a.number a.word) u) net refl h
 taken_off l c u (kind.Take f m) net t h = absurd t
 taken_off l c u _ net t h = refl

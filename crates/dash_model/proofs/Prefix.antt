@@ -41,7 +41,7 @@ precedes_first : (e : Event) (xs ys : List Event) → PrecedesAll e (xs ++ ys) �
 precedes_first e [] ys h = tt
 precedes_first e (x ∷ xs) ys h = (h.0, precedes_first e xs ys h.1)
 
-rising_first : (xs ys : List Event) → IsRising (xs ++ ys) → IsRising xs
+pub rising_first : (xs ys : List Event) → IsRising (xs ++ ys) → IsRising xs
 rising_first [] ys h = tt
 rising_first (x ∷ xs) ys h = (precedes_first x xs ys h.0, rising_first xs ys h.1)
 

@@ -116,7 +116,7 @@ ask_keeps false n h v = refl
 ask_may : (w : Config) (c n h l : ℕ) (own : Bool) (p : Part) → MayAsk w c n h l own p → MayAct (ask_act own n h) (p.cells l)
 ask_may w c n h l own p m = ask_cause w c n h l own p m.lone m.cause
 
-lock_sent : (h l : ℕ) (m : Msg) (need : Need) (p : Part) → LockSends h m need p → is_of l m ≡ false
+pub lock_sent : (h l : ℕ) (m : Msg) (need : Need) (p : Part) → LockSends h m need p → is_of l m ≡ false
 lock_sent h l m (needed.Ask word value) p e = ap (is_of l) e
 lock_sent h l m (needed.Unlock word) p e = ap (is_of l) e.0
 lock_sent h l m _ p e = absurd e

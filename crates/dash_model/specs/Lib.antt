@@ -29,6 +29,8 @@ pub mod LocalRun
 pub mod Complete
 pub mod Weight
 pub mod History
+pub mod Cases
+pub mod LockFacts
 pub mod OnLine
 pub mod LineFacts
 pub mod BufferFacts

@@ -1,0 +1,61 @@
+-- What every run keeps of messages, waiters and lock words.
+use Rattle.std.specs.Prelude.{◌≡◌, ℕ, ◌+◌, ◌*◌, ◌<◌, ◌≤◌, ◌==◌, true, cond, List, [], ◌∷◌, sum_by}
+use Rattle.dash_base.specs.declared.id.WordAddr.{WordAddr}
+use Rattle.dash_msg.specs.declared.msg.Msg.{Msg}
+use Rattle.dash_msg.specs.declared.msg.Msg.TheVariants.{LockAsk, Unlock, LockGrant, UnlockAck}
+use Rattle.dash_event.specs.declared.event.Event.{Event}
+use Rattle.dash_model.specs.Maps.{weigh, total}
+use Rattle.dash_model.specs.Config.{Config, all_harts, cluster_of, lines, is_lock, lock_at, lock_home}
+use Rattle.dash_model.specs.Net.{Packet}
+use Rattle.dash_model.specs.Cell.{NoCopy, NoSlot}
+use Rattle.dash_model.specs.Part.{Waiter}
+use Rattle.dash_model.specs.OnLine.{one}
+use Rattle.dash_model.specs.Ranges.{in_range}
+use Rattle.dash_model.specs.Coherent.{lock_uses}
+use Rattle.dash_model.specs.LineFacts.{cell_at, IsOnItsWay}
+use Rattle.dash_model.specs.Machine.{Machine, Reaches}
+
+-- each message on its way is of a line of memory or of a lock word, and its numbers are in range for the cluster that it goes to: its line or word is at home there where its row wants that, and the clusters and harts that it names exist
+abbrev pub MessagesAreInRange : Type 0
+MessagesAreInRange = (w : Config) (log : List Event) (m : Machine) (q : Packet) → Reaches w log m → IsOnItsWay q m.net → in_range w q.dst q.msg ≡ true
+
+-- the lock words whose home is c, and who waits for the lock word of this number
+abbrev pub queue_of : Config → Machine → ℕ → List Waiter
+queue_of w m i = ((m.parts (lock_home w i)).locks i).queue
+
+-- each of these waiters is a hart of the machine
+abbrev pub AllAreHarts : Config → List Waiter → Type 0
+AllAreHarts w [] = Unit {0}
+AllAreHarts w (x ∷ xs) = (x.hart < all_harts w) × AllAreHarts w xs
+
+-- whether a message is a lock message of hart h: it asks for a lock word, frees one, or answers
+abbrev pub of_hart_msg : ℕ → Msg → ℕ
+of_hart_msg h (LockAsk t n word v) = one t.0 h
+of_hart_msg h (Unlock t n word) = one t.0 h
+of_hart_msg h (LockGrant t) = one t.0 h
+of_hart_msg h (UnlockAck t old) = one t.0 h
+of_hart_msg h m = 0
+
+abbrev pub of_hart : ℕ → Packet → ℕ
+of_hart h q = of_hart_msg h q.msg
+
+-- whether a waiter is hart h
+abbrev pub is_waiter : ℕ → Waiter → ℕ
+is_waiter h x = one x.hart h
+
+-- the places of hart h in the queues of the lock words, each at its home
+abbrev pub places_of : Config → Machine → ℕ → ℕ
+places_of w m h = total (λ i. weigh (is_waiter h) (queue_of w m i)) w.top.locks
+
+-- 1 where the lock instruction of hart h was sent
+abbrev pub asking : Config → Machine → ℕ → ℕ
+asking w m h = cond ((m.parts (cluster_of w h)).harts h).asked 1 0
+
+-- of lines that are not of memory no cluster has anything, and waiters are harts of the machine; a hart whose lock instruction was sent has one lock message on its way or one place in a queue, and another hart none
+pub record LockFacts (w : Config) (m : Machine) : Type 0 where
+  pub waiters : (c i : ℕ) → AllAreHarts w ((m.parts c).locks i).queue
+  pub one_each : (h : ℕ) → weigh (of_hart h) m.net + places_of w m h ≡ asking w m h
+
+-- every run keeps these
+abbrev pub RunsKeepLocks : Type 0
+RunsKeepLocks = (w : Config) (log : List Event) (m : Machine) → Reaches w log m → LockFacts w m
