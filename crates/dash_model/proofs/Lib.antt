@@ -34,3 +34,4 @@ pub mod Prefix
 pub mod Numbered
 pub mod InRuns
 pub mod Nowhere
+pub mod LockRange

@@ -1,5 +1,5 @@
 -- Each lock message on its way is in range, and each waiter is a hart of the machine.
-use Rattle.std.proofs.Common.{◌≡◌, ℕ, ◌*◌, ◌/◌, ◌%◌, ◌≤◌, ◌<◌, ◌==◌, ◌&&◌, Bool, true, false, cond, nat_lt, Some, Option, None, List, [], ◌∷◌, ◌++◌, map, refl, sym, ap, ◌∙◌, subst, arith}
+use Rattle.std.proofs.Common.{◌≡◌, ℕ, ◌/◌, ◌<◌, ◌==◌, ◌&&◌, Bool, true, false, cond, nat_lt, Some, Option, None, List, [], ◌∷◌, ◌++◌, map, refl, sym, subst, arith}
 use Rattle.std.specs.Prelude.{unwrap_or}
 use Rattle.std.proofs.lemmas.Bool.Decides.{nat_tests}
 use Rattle.std.proofs.Math.Nat.{div-lt_iff_lt-mul}
@@ -17,27 +17,28 @@ use Rattle.dash_event.specs.declared.event.Kind.TheVariants as kind
 use Rattle.dash_base.specs.declared.need.HintKind.{HintKind}
 use Rattle.dash_base.specs.declared.need.HintKind.TheVariants.{Fetch, Shared, Exclusive}
 use Rattle.write_buffer.specs.declared.entry.Entry.{Entry as Stored}
-use Rattle.hart_core.specs.Access.{in_locks, IsLockWord}
+use Rattle.hart_core.specs.Access.{IsLockWord}
 use Rattle.hart_core.specs.Meaning.{Needs}
 use Rattle.dash_base.specs.declared.need.Need.{Need}
 use Rattle.dash_base.specs.declared.need.Need.TheVariants as needed
 use Rattle.hart_core.proofs.LawsOffered.{proper}
 use Rattle.dash_model.specs.Config.{Config, hart_id, line_id, all_harts, cluster_of, home_of, line_at, is_lock, lock_at, lock_home, first_prefetch}
-use Rattle.dash_model.specs.Net.{Packet, packet, in_lane, head, tail, send}
+use Rattle.dash_model.specs.Net.{Packet, packet, in_lane, tail, send}
 use Rattle.dash_model.specs.Part.{Waiter, Part}
 use Rattle.dash_model.specs.Acts.{Act, AskRead, AskOwn, Again, Install, Commit, BusRead, BusOwn, act_row}
 use Rattle.dash_model.specs.LineRows.{take_row}
 use Rattle.dash_model.specs.Words.{held_by, content, written_in}
 use Rattle.dash_model.specs.HartRows.{PartEffect, quiet, HartEffect, acts, change, retire, hint_row, commit_row, kept, rmw_reserved, evict_act, ask_act, lock_target}
-use Rattle.dash_model.specs.LockRows.{grant_row, queued, answered}
-use Rattle.dash_model.specs.HartGuards.{LockSends, number_of}
-use Rattle.dash_model.specs.Ranges.{has_hart, own_lock, own_hart, in_range, has_space, applies}
+use Rattle.dash_model.specs.LockRows.{grant_row, free_row, answered}
+use Rattle.dash_model.specs.HartGuards.{LockSends}
+use Rattle.dash_model.specs.Ranges.{has_hart, own_lock, in_range, has_space, applies}
 use Rattle.dash_model.specs.Guard.{Guard}
 use Rattle.dash_model.specs.Row.{line_msg_row, msg_row, msg_row_if, row}
 use Rattle.dash_model.specs.OnLine.{is_of}
 use Rattle.dash_model.specs.LockFacts.{AllAreHarts}
-use Rattle.dash_model.specs.Machine.{Machine, Step, taken, less, CanHappen, after, opening, Reaches}
+use Rattle.dash_model.specs.Machine.{Machine, Step, taken, less, CanHappen, after, Reaches}
 use Rattle.dash_model.proofs.Along.{AllAre}
+use Rattle.dash_model.proofs.Views.{IsNoTake}
 use Rattle.dash_model.proofs.RowsAlong.{act_sends, take_sends}
 use Rattle.dash_model.proofs.InRuns.{in_runs}
 
@@ -154,3 +155,105 @@ one_queue : (w : Config) (p : Part) (k v n : ℕ) (q : List Waiter) → Queues w
 one_queue w p k v n q all new i true = new
 one_queue w p k v n q all new i false = all i
 
+grant_fits : (w : Config) (i : ℕ) (b : List Waiter) (p : Part) → AllAreHarts w b → Queues w p → Fits w (grant_row w i b p)
+grant_fits w i [] p h q = record { sent = tt; queues = q }
+grant_fits w i (x ∷ xs) p h q = record {
+  sent = (both (has_hart w (hart_id x.hart)) (cluster_of w x.hart == cluster_of w x.hart) (below x.hart (all_harts w) h.0) (same (cluster_of w x.hart)), tt);
+  queues = λ k. one_queue w p i x.value _ xs q h.1 k (k == i);
+}
+
+both_left : (a b : Bool) → a && b ≡ true → a ≡ true
+both_left true b e = refl
+both_left false b e = absurd (cc)
+
+free_fits : (w : Config) (c i : ℕ) (h : HartId) (word : WordAddr) (p : Part) → has_hart w h && own_lock w c word ≡ true → Queues w p → Fits w (free_row w i h p)
+free_fits w c i h word p s q = record {
+  sent = (both (has_hart w h) (cluster_of w h.0 == cluster_of w h.0) (both_left (has_hart w h) (own_lock w c word) s) (same (cluster_of w h.0)), tt);
+  queues = λ k. one_queue w p i 0 _ (p.locks i).queue q (q i) k (k == i);
+}
+
+-- each event but Take
+row_fits : (w : Config) (c : ℕ) (e : Kind) (d : HartEffect) (p : Part) → c < w.top.clusters → IsNoTake e → Guard w c e d p → Queues w p → Fits w (row w c e d p)
+unfolding row Guard
+row_fits w c (kind.Hint h pc slot) d p b t g q = subst (λ n. Fits w (hint_row w h.0 slot n (retire h.0 d p))) (sym g.next.retires.need_is) (hint_fits w h.0 slot g.kinds g.address (retire h.0 d p) q)
+row_fits w c (kind.Commit h n k v) d p b t g q = commit_fits w h.0 k.0 (p.harts h.0).buffer p q
+row_fits w c (kind.Rmw a k v) d p b t g q = acts_fit w k.0 (Commit a.hart.0 (written_in w a.word.0 a.mask (unwrap_or a.written 0) (content (p.cells k.0).copy))) (change a.hart.0 (record (p.harts a.hart.0) { core = d.next; reserved = rmw_reserved a.op (p.harts a.hart.0).reserved }) p) q
+row_fits w c (kind.LockSend h m) d p b t g q = record { sent = (sends_fit w h.0 m g.need p (hart_below w h.0 c g.mine b) g.needs g.sends, tt); queues = q }
+row_fits w c (kind.BusRead h k) d p b t g q = acts_fit w k.0 (BusRead h.0) p q
+row_fits w c (kind.BusOwn h k) d p b t g q = acts_fit w k.0 (BusOwn h.0) p q
+row_fits w c (kind.Evict h k) d p b t g q = acts_fit w k.0 (evict_act h.0 (p.cells k.0).copy) p q
+row_fits w c (kind.Ask slot h k own) d p b t g q = acts_fit w k.0 (ask_act own slot h.0) p q
+row_fits w c (kind.Again slot k) d p b t g q = acts_fit w k.0 Again p q
+row_fits w c (kind.Install slot h k) d p b t g q = acts_fit w k.0 Install (change h.0 (kept w k.0 (p.cells k.0).slot (held_by h.0 (p.cells k.0).copy) (p.harts h.0)) p) q
+row_fits w c (kind.Grant a) d p b t g q = grant_fits w (lock_at w a.word.0) (p.locks (lock_at w a.word.0)).queue p (q (lock_at w a.word.0)) q
+row_fits w c (kind.Free f a) d p b t g q = free_fits w c (lock_at w a.word.0) a.hart a.word p g.serves q
+row_fits w c (kind.Take f m) d p b t g q = absurd t
+row_fits w c _ d p b t g q = record { sent = tt; queues = q }
+
+takes_fit : (w : Config) (c f : ℕ) (l : LineId) (m : Msg) (p : Part) → is_of l.0 m ≡ true → Queues w p → Fits w (line_msg_row w c f l m p)
+takes_fit w c f l m p e q = record { sent = lines_fit w l.0 (take_row (first_prefetch w) (home_of w l.0) c f m (p.cells l.0) (p.homes l.0)).sent (take_sends l.0 (first_prefetch w) (home_of w l.0) c f m (p.cells l.0) (p.homes l.0) e); queues = q }
+
+more_harts : (w : Config) (xs : List Waiter) (x : Waiter) → AllAreHarts w xs → x.hart < all_harts w → AllAreHarts w (xs ++ x ∷ [])
+more_harts w [] x h b = (b, tt)
+more_harts w (y ∷ ys) x h b = (h.0, more_harts w ys x h.1 b)
+
+is_below : (a n : ℕ) → nat_lt a n ≡ true → a < n
+is_below a n e = grind (arith, nat_tests)
+
+answers_fit : (w : Config) (h : ℕ) (b : Bool) (d : HartEffect) (p : Part) → Queues w p → Fits w (quiet (answered h b d p))
+answers_fit w h true d p q = record { sent = tt; queues = q }
+answers_fit w h false d p q = record { sent = tt; queues = q }
+
+msg_fits : (w : Config) (c f : ℕ) (m : Msg) (d : HartEffect) (p : Part) → applies w c m p ≡ true → Queues w p → Fits w (msg_row w c f m d p)
+msg_fits w c f (Read l) d p e q = takes_fit w c f l (Read l) p (same l.0) q
+msg_fits w c f (ReadEx l) d p e q = takes_fit w c f l (ReadEx l) p (same l.0) q
+msg_fits w c f (FwdRead l r) d p e q = takes_fit w c f l (FwdRead l r) p (same l.0) q
+msg_fits w c f (FwdReadEx l r) d p e q = takes_fit w c f l (FwdReadEx l r) p (same l.0) q
+msg_fits w c f (Inval l r) d p e q = takes_fit w c f l (Inval l r) p (same l.0) q
+msg_fits w c f (WriteBack l x) d p e q = takes_fit w c f l (WriteBack l x) p (same l.0) q
+msg_fits w c f (SharingBack l x r) d p e q = takes_fit w c f l (SharingBack l x r) p (same l.0) q
+msg_fits w c f (Transfer l r) d p e q = takes_fit w c f l (Transfer l r) p (same l.0) q
+msg_fits w c f (LockAsk h n word v) d p e q =
+    let range = both_left (in_range w c (LockAsk h n word v)) (has_space w c (LockAsk h n word v) p) e in
+    let low = is_below h.0 (all_harts w) (both_left (has_hart w h) (own_lock w c word) range) in
+    let i = lock_at w word.0 in
+    record { sent = tt; queues = λ k. one_queue w p i (p.locks i).value (p.locks i).count ((p.locks i).queue ++ record { hart = h.0; number = n; value = v } ∷ []) q (more_harts w (p.locks i).queue (record { hart = h.0; number = n; value = v }) (q i) low) k (k == i) }
+msg_fits w c f (Unlock h n word) d p e q = record { sent = tt; queues = q }
+msg_fits w c f (Data l x) d p e q = takes_fit w c f l (Data l x) p (same l.0) q
+msg_fits w c f (DataEx l x n) d p e q = takes_fit w c f l (DataEx l x n) p (same l.0) q
+msg_fits w c f (Ack l) d p e q = takes_fit w c f l (Ack l) p (same l.0) q
+msg_fits w c f (TransferAck l) d p e q = takes_fit w c f l (TransferAck l) p (same l.0) q
+msg_fits w c f (Nak l) d p e q = takes_fit w c f l (Nak l) p (same l.0) q
+msg_fits w c f (LockGrant h) d p e q = answers_fit w h.0 (p.harts h.0).asked d p q
+msg_fits w c f (UnlockAck h old) d p e q = answers_fit w h.0 (p.harts h.0).asked d p q
+
+msg_fits_if : (w : Config) (c f : ℕ) (m : Msg) (d : HartEffect) (p : Part) (b : Bool) → applies w c m p ≡ b → Queues w p → Fits w (msg_row_if b w c f m d p)
+msg_fits_if w c f m d p true e q = msg_fits w c f m d p e q
+msg_fits_if w c f m d p false e q = record { sent = tt; queues = q }
+
+each_fits : (w : Config) (c : ℕ) (e : Kind) (d : HartEffect) (p : Part) → c < w.top.clusters → Guard w c e d p → Queues w p → Fits w (row w c e d p)
+unfolding row
+each_fits w c (kind.Take f m) d p b g q = msg_fits_if w c f.0 m d p (applies w c m p) refl q
+each_fits w c e d p b g q = row_fits w c e d p b tt g q
+
+-- all lock messages are in range, and all waiters harts of the machine
+pub record LocksFit (w : Config) (m : Machine) : Type 0 where
+  pub net : AllFit w m.net
+  pub queues : (c : ℕ) → Queues w (m.parts c)
+
+either : (w : Config) (q p : Part) (b : Bool) → Queues w q → Queues w p → Queues w (cond b q p)
+either w q p true h k = h
+either w q p false h k = k
+
+fits_step : (w : Config) (log : List Event) (m : Machine) (g : Step) → Reaches w log m → CanHappen w m g → LocksFit w m → LocksFit w (after w m g)
+fits_step w log m g r can k =
+    let c = g.event.cluster.0 in
+    let d = row w c g.event.kind g.done (m.parts c) in
+    let s = each_fits w c g.event.kind g.done (m.parts c) can.cluster can.steps.guard (k.queues c) in
+    record {
+      net = send_fits w g.event.stamp c (less (taken c g.stamp g.event.kind) m.net) d.sent (less_fits w (taken c g.stamp g.event.kind) m.net k.net) s.sent;
+      queues = λ x. either w (record d.part { last = g.event.stamp }) (m.parts x) (x == c) s.queues (k.queues x);
+    }
+
+pub locks_fit : (w : Config) (log : List Event) (m : Machine) → Reaches w log m → LocksFit w m
+locks_fit w log m r = in_runs w (λ es n. LocksFit w n) (record { net = tt; queues = λ c i. tt }) (λ es n g reached can k. fits_step w es n g reached can k) log m r

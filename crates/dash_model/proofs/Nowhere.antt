@@ -1,5 +1,5 @@
 -- Of lines that are not of memory no cluster has anything, and no message is on its way.
-use Rattle.std.proofs.Common.{◌≡◌, ◌≢◌, ◌⊎◌, ℕ, ◌+◌, ◌-◌, ◌/◌, ◌%◌, ◌≤◌, ◌<◌, ◌==◌, Bool, true, false, cond, Option, None, Some, List, [], ◌∷◌, ◌++◌, refl, sym, ap, ◌∙◌, subst, inl, inr, arith}
+use Rattle.std.proofs.Common.{◌≡◌, ◌≢◌, ℕ, ◌+◌, ◌≤◌, ◌<◌, ◌==◌, Bool, true, false, cond, Option, None, Some, List, [], ◌∷◌, refl, sym, ap, ◌∙◌, subst, arith}
 use Rattle.std.proofs.lemmas.Bool.Decides.{nat_tests}
 use Rattle.std.specs.Prelude.{unwrap_or}
 use Rattle.dash_base.specs.declared.id.ClusterId.{ClusterId}
@@ -8,7 +8,6 @@ use Rattle.dash_base.specs.declared.ops.AmoOp.TheVariants.{Sc}
 use Rattle.dash_msg.specs.Classes.{class_of}
 use Rattle.dash_msg.specs.declared.classes.Class.{Class}
 use Rattle.dash_msg.specs.declared.msg.Msg.{Msg}
-use Rattle.dash_msg.specs.declared.parcel.Sent.{Sent}
 use Rattle.dash_event.specs.declared.event.Event.{Event}
 use Rattle.dash_event.specs.declared.event.Kind.{Kind}
 use Rattle.dash_event.specs.declared.event.Kind.TheVariants as kind
@@ -20,22 +19,22 @@ use Rattle.dash_base.specs.declared.need.Need.{Need}
 use Rattle.dash_base.specs.declared.need.Need.TheVariants as needed
 use Rattle.hart_core.proofs.LawsOffered.{proper}
 use Rattle.dash_model.specs.Config.{Config, line_id, lines, home_of, line_at, lock_at, cluster_of}
-use Rattle.dash_model.specs.Net.{Packet, parcel, head, tail, send}
-use Rattle.dash_model.specs.Cell.{Copy, NoCopy, Slot, NoSlot, Cell, Home}
+use Rattle.dash_model.specs.Net.{Packet, parcel, head, tail}
+use Rattle.dash_model.specs.Cell.{NoCopy, NoSlot, Cell, Home}
 use Rattle.dash_model.specs.Part.{Processor, Waiter, Part}
 use Rattle.dash_model.specs.Acts.{Act, AskRead, AskOwn, Again, Install, Commit, Evict, Drop, BusRead, BusOwn, act_row, again_row, install_row, commit_copy, evict_row, drop_hart, bus_read, bus_own}
 use Rattle.dash_model.specs.HartRows.{PartEffect, quiet, HartEffect, acts, change, retire, hint_row, commit_row, kept, rmw_reserved, evict_act, ask_act}
 use Rattle.dash_model.specs.LockRows.{grant_row}
 use Rattle.dash_model.specs.LineEffect.{is_owner}
 use Rattle.dash_model.specs.Words.{held_by, content, written_in}
-use Rattle.dash_model.specs.Wants.{LoadsFrom, NeedsCopy, WritesTo, FrontNeed, HeadIn, AsksFor, FrontReads, FrontOwns, StoreOwns, Opens}
+use Rattle.dash_model.specs.Wants.{LoadsFrom, WritesTo, HeadIn, AsksFor, FrontReads, FrontOwns, StoreOwns}
 use Rattle.dash_model.specs.HartGuards.{SlotIs}
 use Rattle.dash_model.specs.Guard.{Guard}
 use Rattle.dash_model.specs.Ranges.{applies}
-use Rattle.dash_model.specs.Row.{msg_row_if, row}
+use Rattle.dash_model.specs.Row.{row}
 use Rattle.dash_model.specs.OnLine.{is_of, on}
 use Rattle.dash_model.specs.Machine.{Machine, Step, taken, AtHead, less, CanHappen, after, opening, Reaches}
-use Rattle.dash_model.proofs.Along.{AllAre, same_or_not, all_other, on-send-none, on-head, on-tail-off}
+use Rattle.dash_model.proofs.Along.{AllAre, all_other, on-send-none, on-head, on-tail-off}
 use Rattle.dash_model.proofs.RowsAlong.{act_sends}
 use Rattle.dash_model.proofs.Views.{IsNoTake, lock_sent}
 use Rattle.dash_model.proofs.Taken.{take_off_if}

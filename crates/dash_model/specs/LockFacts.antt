@@ -1,18 +1,15 @@
 -- What every run keeps of messages, waiters and lock words.
-use Rattle.std.specs.Prelude.{◌≡◌, ℕ, ◌+◌, ◌*◌, ◌<◌, ◌≤◌, ◌==◌, true, cond, List, [], ◌∷◌, sum_by}
-use Rattle.dash_base.specs.declared.id.WordAddr.{WordAddr}
+use Rattle.std.specs.Prelude.{◌≡◌, ℕ, ◌+◌, ◌<◌, true, cond, List, [], ◌∷◌}
 use Rattle.dash_msg.specs.declared.msg.Msg.{Msg}
 use Rattle.dash_msg.specs.declared.msg.Msg.TheVariants.{LockAsk, Unlock, LockGrant, UnlockAck}
 use Rattle.dash_event.specs.declared.event.Event.{Event}
 use Rattle.dash_model.specs.Maps.{weigh, total}
-use Rattle.dash_model.specs.Config.{Config, all_harts, cluster_of, lines, is_lock, lock_at, lock_home}
+use Rattle.dash_model.specs.Config.{Config, all_harts, cluster_of, lock_home}
 use Rattle.dash_model.specs.Net.{Packet}
-use Rattle.dash_model.specs.Cell.{NoCopy, NoSlot}
 use Rattle.dash_model.specs.Part.{Waiter}
 use Rattle.dash_model.specs.OnLine.{one}
 use Rattle.dash_model.specs.Ranges.{in_range}
-use Rattle.dash_model.specs.Coherent.{lock_uses}
-use Rattle.dash_model.specs.LineFacts.{cell_at, IsOnItsWay}
+use Rattle.dash_model.specs.LineFacts.{IsOnItsWay}
 use Rattle.dash_model.specs.Machine.{Machine, Reaches}
 
 -- each message on its way is of a line of memory or of a lock word, and its numbers are in range for the cluster that it goes to: its line or word is at home there where its row wants that, and the clusters and harts that it names exist
