@@ -35,3 +35,4 @@ pub mod Numbered
 pub mod InRuns
 pub mod Nowhere
 pub mod LockRange
+pub mod InRange

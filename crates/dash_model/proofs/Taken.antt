@@ -145,18 +145,18 @@ fits w l v c s i b some =
     let few = announced w.top.clusters c s.net b.net (omega arith) in
     got_small w.top.clusters (counting c s) (weigh (counts_to c) s.net) _ (s.cells c).slot (s.cells c).acks k.counts (omega arith) few (b.acks c) w.top.clusters_in_range.high
 
-below : (a n : ℕ) → a < n → nat_lt a n ≡ true
+pub below : (a n : ℕ) → a < n → nat_lt a n ≡ true
 below a n l = grind (arith, nat_tests)
 
-both : (a b : Bool) → a ≡ true → b ≡ true → a && b ≡ true
+pub both : (a b : Bool) → a ≡ true → b ≡ true → a && b ≡ true
 both true true e f = refl
 both true false e f = f
 both false b e f = absurd (cc)
 
-line_in : (w : Config) (k : LineId) (l : ℕ) → (k.0 == l) ≡ true → l < lines w → has_line w k ≡ true
+pub line_in : (w : Config) (k : LineId) (l : ℕ) → (k.0 == l) ≡ true → l < lines w → has_line w k ≡ true
 line_in w k l e b = below k.0 (lines w) (subst (λ y. y < lines w) (is_line k.0 l e) b)
 
-home_in : (w : Config) (c : ℕ) (k : LineId) (l : ℕ) → (k.0 == l) ≡ true → l < lines w → c ≡ home_of w l → at_home w c k ≡ true
+pub home_in : (w : Config) (c : ℕ) (k : LineId) (l : ℕ) → (k.0 == l) ≡ true → l < lines w → c ≡ home_of w l → at_home w c k ≡ true
 home_in w c k l e b h = both (has_line w k) (home_of w k.0 == c) (line_in w k l e b) (subst (λ y. (home_of w k.0 == y) ≡ true) (sym (h ∙ ap (home_of w) (is_line k.0 l e))) (test_true (home_of w k.0)))
 
 one_same : (c : ℕ) → one c c ≡ 1
