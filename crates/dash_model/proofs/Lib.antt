@@ -36,3 +36,4 @@ pub mod InRuns
 pub mod Nowhere
 pub mod LockRange
 pub mod InRange
+pub mod Totals
