@@ -37,3 +37,4 @@ pub mod Nowhere
 pub mod LockRange
 pub mod InRange
 pub mod Totals
+pub mod HartSteps
