@@ -38,3 +38,5 @@ pub mod LockRange
 pub mod InRange
 pub mod Totals
 pub mod HartSteps
+pub mod LineCases
+pub mod LockCases
