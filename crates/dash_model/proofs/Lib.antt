@@ -40,3 +40,4 @@ pub mod Totals
 pub mod HartSteps
 pub mod LineCases
 pub mod LockCases
+pub mod LockBalance
