@@ -1,29 +1,20 @@
 -- What a step changes, and how stamps rise.
-use Rattle.std.proofs.Common.{◌≡◌, ◌≢◌, ◌⊎◌, ℕ, ◌<◌, ◌≤◌, ◌==◌, true, false, cond, max, Some, List, [], ◌∷◌, map, refl, ap, ◌∙◌, subst, inl, inr, arith}
+use Rattle.std.proofs.Common.{◌≡◌, ◌≢◌, ◌⊎◌, ℕ, ◌≤◌, ◌==◌, false, cond, max, List, [], ◌∷◌, map, refl, ap, ◌∙◌, inl, inr, arith}
 use Rattle.std.proofs.lemmas.Bool.Decides.{nat_tests}
-use Rattle.dash_msg.specs.Classes.{class_of}
 use Rattle.dash_msg.specs.declared.classes.Class.{Class}
 use Rattle.dash_msg.specs.declared.parcel.Sent.{Sent}
-use Rattle.dash_msg.specs.declared.msg.Msg.{Msg}
 use Rattle.dash_msg.specs.declared.msg.Msg.TheVariants.{Unlock}
-use Rattle.dash_event.specs.declared.event.Event.{Event}
 use Rattle.dash_event.specs.declared.event.Kind.{Kind}
 use Rattle.dash_event.specs.declared.event.Kind.TheVariants.{Free, Take}
-use Rattle.dash_base.specs.declared.id.ClusterId.{ClusterId}
 use Rattle.dash_model.specs.Maps.{most, raised}
-use Rattle.dash_model.specs.Config.{Config, lines}
-use Rattle.dash_model.specs.Net.{packet, in_lane, lane, head}
+use Rattle.dash_model.specs.Config.{Config}
+use Rattle.dash_model.specs.Net.{packet, in_lane, lane}
 use Rattle.dash_model.specs.Part.{Part}
 use Rattle.dash_model.specs.Row.{row}
-use Rattle.dash_model.specs.Ranges.{applies}
-use Rattle.dash_model.specs.Machine.{Machine, Step, stamp_of, taken, AtHead, less, part_after, CanHappen, Reaches}
+use Rattle.dash_model.specs.Machine.{Machine, Step, stamp_of, taken, AtHead, less, part_after, CanHappen}
 use Rattle.dash_model.specs.LocalRun.{IsLocalRun}
-use Rattle.dash_model.specs.OnLine.{is_of}
 use Rattle.dash_model.specs.MachineLaws.{TakesHead, ChangesOnePart, IsAbove, StampsFrom}
 use Rattle.dash_model.proofs.Lanes.{lane-send}
-use Rattle.dash_model.proofs.Along.{along, on-head}
-use Rattle.dash_model.proofs.Taken.{case_applies}
-use Rattle.dash_model.proofs.Reached.{each_reached}
 
 part_other : (m : Machine) (k c : ℕ) (q : Part) → c ≢ k → cond (c == k) q (m.parts c) ≡ m.parts c
 part_other m k c q n = let e : (c == k) ≡ false = grind (arith, nat_tests) in ap (λ t. cond t q (m.parts c)) e
@@ -67,12 +58,3 @@ stamps_rise w c p [] r = tt
 stamps_rise w c p (g ∷ gs) r =
     let u = stamp_of (taken c g.stamp g.event.kind) in
     (above p.last (max p.last u) g.event.stamp (max_left p.last u) r.0.stamp, above u (max p.last u) g.event.stamp (max_right p.last u) r.0.stamp, stamps_rise w c (part_after w c g p) gs r.1)
-
--- cases apply
-pub cases_apply : (w : Config) (log : List Event) (m : Machine) (g : Step) (f : ClusterId) (x : Msg) (l : ℕ) → l < lines w → is_of l x ≡ true
-    → Reaches w log m → CanHappen w m g → g.event.kind ≡ Take f x → applies w g.event.cluster.0 x (m.parts g.event.cluster.0) ≡ true
-cases_apply w log m g f x l i o r h e =
-    let k = each_reached w log m l i r in
-    let first : head f.0 g.event.cluster.0 (class_of x) m.net ≡ Some (record { src = f.0; dst = g.event.cluster.0; msg = x; stamp = g.stamp }) =
-    subst (λ y. AtHead (taken g.event.cluster.0 g.stamp y) m.net) e h.head in
-    case_applies w l _ g.event.cluster.0 f.0 g.stamp x (m.parts g.event.cluster.0) (along w l m) i o (on-head l f.0 g.event.cluster.0 (class_of x) (record { src = f.0; dst = g.event.cluster.0; msg = x; stamp = g.stamp }) m.net o first) refl k.holds.invariant k.holds.bounded

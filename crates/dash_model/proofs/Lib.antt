@@ -41,3 +41,4 @@ pub mod HartSteps
 pub mod LineCases
 pub mod LockCases
 pub mod LockBalance
+pub mod LockFacts

@@ -16,7 +16,7 @@ use Rattle.dash_model.specs.Machine.{Machine, Reaches}
 abbrev pub MessagesAreInRange : Type 0
 MessagesAreInRange = (w : Config) (log : List Event) (m : Machine) (q : Packet) → Reaches w log m → IsOnItsWay q m.net → in_range w q.dst q.msg ≡ true
 
--- the lock words whose home is c, and who waits for the lock word of this number
+-- who waits for the lock word of this number, at its home
 abbrev pub queue_of : Config → Machine → ℕ → List Waiter
 queue_of w m i = ((m.parts (lock_home w i)).locks i).queue
 
@@ -25,7 +25,7 @@ abbrev pub AllAreHarts : Config → List Waiter → Type 0
 AllAreHarts w [] = Unit {0}
 AllAreHarts w (x ∷ xs) = (x.hart < all_harts w) × AllAreHarts w xs
 
--- whether a message is a lock message of hart h: it asks for a lock word, frees one, or answers
+-- 1 where a message is a lock message of hart h: it asks for a lock word, frees one, or answers
 abbrev pub of_hart_msg : ℕ → Msg → ℕ
 of_hart_msg h (LockAsk t n word v) = one t.0 h
 of_hart_msg h (Unlock t n word) = one t.0 h
@@ -36,7 +36,7 @@ of_hart_msg h m = 0
 abbrev pub of_hart : ℕ → Packet → ℕ
 of_hart h q = of_hart_msg h q.msg
 
--- whether a waiter is hart h
+-- 1 where a waiter is hart h
 abbrev pub is_waiter : ℕ → Waiter → ℕ
 is_waiter h x = one x.hart h
 
@@ -48,7 +48,7 @@ places_of w m h = total (λ i. weigh (is_waiter h) (queue_of w m i)) w.top.locks
 abbrev pub asking : Config → Machine → ℕ → ℕ
 asking w m h = cond ((m.parts (cluster_of w h)).harts h).asked 1 0
 
--- of lines that are not of memory no cluster has anything, and waiters are harts of the machine; a hart whose lock instruction was sent has one lock message on its way or one place in a queue, and another hart none
+-- waiters are harts of the machine; a hart whose lock instruction was sent has one lock message on its way or one place in a queue, and another hart none
 pub record LockFacts (w : Config) (m : Machine) : Type 0 where
   pub waiters : (c i : ℕ) → AllAreHarts w ((m.parts c).locks i).queue
   pub one_each : (h : ℕ) → weigh (of_hart h) m.net + places_of w m h ≡ asking w m h

@@ -1,12 +1,10 @@
 -- What the laws of the machine say.
-use Rattle.std.specs.Prelude.{◌≡◌, ◌≢◌, ◌⊎◌, ℕ, ◌<◌, ◌≤◌, true, Some, List, [], ◌∷◌, ◌++◌, map}
+use Rattle.std.specs.Prelude.{◌≡◌, ◌≢◌, ◌⊎◌, ℕ, ◌<◌, ◌≤◌, Some, List, [], ◌∷◌, ◌++◌, map}
 use Rattle.dash_msg.specs.Classes.{class_of}
 use Rattle.dash_msg.specs.declared.classes.Class.{Class}
-use Rattle.dash_msg.specs.declared.msg.Msg.{Msg}
 use Rattle.dash_msg.specs.declared.parcel.Sent.{Sent}
 use Rattle.dash_event.specs.declared.event.Event.{Event}
-use Rattle.dash_event.specs.declared.event.Kind.TheVariants.{Commit, Rmw, Take}
-use Rattle.dash_base.specs.declared.id.ClusterId.{ClusterId}
+use Rattle.dash_event.specs.declared.event.Kind.TheVariants.{Commit, Rmw}
 use Rattle.dash_base.specs.declared.id.HartId.{HartId}
 use Rattle.dash_base.specs.declared.id.LineId.{LineId}
 use Rattle.dash_event.specs.declared.access.Access.{Access}
@@ -16,10 +14,8 @@ use Rattle.dash_model.specs.Maps.{raised, most}
 use Rattle.dash_model.specs.Config.{Config, lines}
 use Rattle.dash_model.specs.Net.{Packet, packet, lane, head, tail, first, rest, send}
 use Rattle.dash_model.specs.Part.{Part, opening_part}
-use Rattle.dash_model.specs.Ranges.{applies}
 use Rattle.dash_model.specs.Machine.{Machine, Step, stamp_of, Steps, event_of, part_after, taken, less, sends, puts, CanHappen, after, IsRun, Reaches}
 use Rattle.dash_model.specs.LocalRun.{IsLocalRun, part_at, sent_in, packets_taken, received_in, LanesMeet, StampsFit, IsMergeOf, IsMergedRun}
-use Rattle.dash_model.specs.OnLine.{is_of}
 
 -- two steps of one event make one machine of a machine, and two runs of one log reach one state
 abbrev pub EventsFixEffects : Type 0
@@ -70,11 +66,6 @@ StampsFrom c last (g ∷ gs) =
 -- the stamps of a cluster's own run rise
 abbrev pub StampsRise : Type 0
 StampsRise = (w : Config) (c : ℕ) (p : Part) (gs : List Step) → IsLocalRun w c p gs → StampsFrom c p.last gs
-
--- a case applies wherever a message of a line of memory can be taken
-abbrev pub CasesApply : Type 0
-CasesApply =
-    (w : Config) (log : List Event) (m : Machine) (g : Step) (f : ClusterId) (x : Msg) (l : ℕ) → l < lines w → is_of l x ≡ true → Reaches w log m → CanHappen w m g → g.event.kind ≡ Take f x → applies w g.event.cluster.0 x (m.parts g.event.cluster.0) ≡ true
 
 -- one step more at the end of a local run
 pub record Grows (w : Config) (c : ℕ) (p : Part) (gs : List Step) (g : Step) : Type 0 where

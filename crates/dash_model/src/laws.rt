@@ -1,8 +1,10 @@
 //! Laws of the definitions. The functions do nothing: their contracts are the laws.
 ghost use Rattle.dash_model.specs.BufferFacts.{BuffersHoldUncommittedStores};
+ghost use Rattle.dash_model.specs.Cases.{CasesApply};
 ghost use Rattle.dash_model.specs.Example.{ExampleRuns};
 ghost use Rattle.dash_model.specs.LineFacts.{RunsKeepLines};
-ghost use Rattle.dash_model.specs.MachineLaws.{EventsFixEffects, LanesAreQueues, StepsChangeOnePart, StampsRise, CasesApply, CommitsAreNumbered, EventsHappen, LocalRunsGrow, MergesAreRuns};
+ghost use Rattle.dash_model.specs.LockFacts.{MessagesAreInRange, RunsKeepLocks};
+ghost use Rattle.dash_model.specs.MachineLaws.{EventsFixEffects, LanesAreQueues, StepsChangeOnePart, StampsRise, CommitsAreNumbered, EventsHappen, LocalRunsGrow, MergesAreRuns};
 
 /// Every run keeps the facts of each line of memory: one token, whose content is by the log the current
 /// one, in its version and in each word; an entry that knows where it is; one answer to each request;
@@ -18,7 +20,25 @@ pub fn buffers_hold_uncommitted_stores()
     ensures { BuffersHoldUncommittedStores }
 {}
 
-/// In every run, where a message of a line of memory is taken, a case of its row applies.
+/// In every run each message on its way is of a line of memory or of a lock word. It goes to the home of
+/// its line or word where its row wants that, and the clusters and harts that it names exist.
+pub fn messages_are_in_range()
+    ensures { MessagesAreInRange }
+{}
+
+/// In every run a hart whose lock instruction was sent has exactly one lock message on its way or one
+/// place in a queue, and any other hart has none; and whoever waits for a lock word is a hart of the
+/// machine.
+pub fn runs_keep_locks()
+    ensures { RunsKeepLocks }
+{}
+
+/// In every run a message that is taken finds a case of its row. Its numbers are in range, its line or word
+/// has the right home, and there is room for what it adds: fewer harts wait at a home than there are where
+/// one asks there for a lock word, and one acknowledgement more fits. What it is for is there: the owner
+/// that the directory's entry names, the slot that waits for the answer, the line's entry that counts the
+/// acknowledgement, the hart whose lock instruction was sent. No Unlock is left to a Take: its home frees
+/// the word.
 pub fn cases_apply()
     ensures { CasesApply }
 {}

@@ -1,4 +1,4 @@
-use Rattle.dash_model.proofs.Changes.{cases_apply}
+use Rattle.dash_model.proofs.LockFacts.{cases_apply}
 use Rattle.dash_model.proofs.laws.cases_apply.Goals as goal
 
 pub returns : goal.returns
