@@ -42,3 +42,5 @@ pub mod LineCases
 pub mod LockCases
 pub mod LockBalance
 pub mod LockFacts
+pub mod Retired
+pub mod Asking

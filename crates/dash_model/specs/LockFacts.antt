@@ -1,20 +1,27 @@
 -- What every run keeps of messages, waiters and lock words.
-use Rattle.std.specs.Prelude.{◌≡◌, ℕ, ◌+◌, ◌<◌, true, cond, List, [], ◌∷◌}
+use Rattle.std.specs.Prelude.{◌≡◌, ℕ, ◌+◌, ◌*◌, ◌<◌, ◌≤◌, true, cond, List, [], ◌∷◌, sum_by}
+use Rattle.dash_base.specs.declared.id.WordAddr.{WordAddr}
 use Rattle.dash_msg.specs.declared.msg.Msg.{Msg}
 use Rattle.dash_msg.specs.declared.msg.Msg.TheVariants.{LockAsk, Unlock, LockGrant, UnlockAck}
 use Rattle.dash_event.specs.declared.event.Event.{Event}
 use Rattle.dash_model.specs.Maps.{weigh, total}
-use Rattle.dash_model.specs.Config.{Config, all_harts, cluster_of, lock_home}
+use Rattle.dash_model.specs.Config.{Config, all_harts, cluster_of, lines, is_lock, lock_at, lock_home}
+use Rattle.dash_model.specs.Coherent.{lock_uses}
+use Rattle.dash_model.specs.Cell.{NoCopy, NoSlot}
 use Rattle.dash_model.specs.Net.{Packet}
 use Rattle.dash_model.specs.Part.{Waiter}
 use Rattle.dash_model.specs.OnLine.{one}
 use Rattle.dash_model.specs.Ranges.{in_range}
-use Rattle.dash_model.specs.LineFacts.{IsOnItsWay}
+use Rattle.dash_model.specs.LineFacts.{cell_at, IsOnItsWay}
 use Rattle.dash_model.specs.Machine.{Machine, Reaches}
 
 -- each message on its way is of a line of memory or of a lock word, and its numbers are in range for the cluster that it goes to: its line or word is at home there where its row wants that, and the clusters and harts that it names exist
 abbrev pub MessagesAreInRange : Type 0
 MessagesAreInRange = (w : Config) (log : List Event) (m : Machine) (q : Packet) → Reaches w log m → IsOnItsWay q m.net → in_range w q.dst q.msg ≡ true
+
+-- of a line that is not of memory no cluster has a copy or a slot
+abbrev pub LinesAreOfMemory : Type 0
+LinesAreOfMemory = (w : Config) (log : List Event) (m : Machine) (l c : ℕ) → lines w ≤ l → Reaches w log m → ((cell_at l m c).copy ≡ NoCopy) × ((cell_at l m c).slot ≡ NoSlot)
 
 -- who waits for the lock word of this number, at its home
 abbrev pub queue_of : Config → Machine → ℕ → List Waiter
@@ -56,3 +63,16 @@ pub record LockFacts (w : Config) (m : Machine) : Type 0 where
 -- every run keeps these
 abbrev pub RunsKeepLocks : Type 0
 RunsKeepLocks = (w : Config) (log : List Event) (m : Machine) → Reaches w log m → LockFacts w m
+
+-- how often a log grants or frees a lock word
+abbrev pub uses_of : WordAddr → List Event → ℕ
+uses_of word log = sum_by (λ (e : Event). lock_uses word e.kind) log
+
+-- the count of a lock word is how often the log grants or frees it, and harts have that many instructions
+pub record IsCounted (w : Config) (log : List Event) (m : Machine) (word : WordAddr) : Type 0 where
+  pub count : ((m.parts (lock_home w (lock_at w word.0))).locks (lock_at w word.0)).count ≡ uses_of word log
+  pub bound : uses_of word log ≤ all_harts w * (w.top.budget + 1)
+
+-- in every run, of each lock word
+abbrev pub LocksAreCounted : Type 0
+LocksAreCounted = (w : Config) (log : List Event) (m : Machine) (word : WordAddr) → is_lock w word.0 ≡ true → Reaches w log m → IsCounted w log m word
