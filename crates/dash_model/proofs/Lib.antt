@@ -44,3 +44,4 @@ pub mod LockBalance
 pub mod LockFacts
 pub mod Retired
 pub mod Asking
+pub mod Serving
