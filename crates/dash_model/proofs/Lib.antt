@@ -45,3 +45,4 @@ pub mod LockFacts
 pub mod Retired
 pub mod Asking
 pub mod Serving
+pub mod LockCounts

@@ -58,7 +58,7 @@ raised_by (suc k) n = raised most n
 -- an answer is sent to whom the event serves, and the count of its word goes up
 pub record Serves (w : Config) (e : Kind) (h : ℕ) (word : WordAddr) (p : Part) (d : PartEffect) : Type 0 where
   pub sent : sent_answers h d.sent ≡ serves e h
-  pub count : (d.part.locks (lock_at w word.0)).count ≡ raised_by (lock_uses word e) (p.locks (lock_at w word.0)).count
+  pub count : is_lock w word.0 ≡ true → (d.part.locks (lock_at w word.0)).count ≡ raised_by (lock_uses word e) (p.locks (lock_at w word.0)).count
 
 line_none : (h k : ℕ) (m : Msg) → is_of k m ≡ true → answer_msg h m ≡ 0
 line_none h k (LockGrant t) e = absurd (cc)
@@ -103,10 +103,10 @@ module _ (w : Config) (e : Kind) (h : ℕ) (word : WordAddr) (o : IsOther e) whe
   stays n k s = s ∙ sym (ap (λ x. raised_by x k) (other_uses e word o))
 
   still : (p q : Part) → (q.locks (lock_at w word.0)).count ≡ (p.locks (lock_at w word.0)).count → Serves w e h word p (quiet q)
-  still p q s = record { sent = sent_none h ∙ sym (other_serves e h o); count = stays (q.locks (lock_at w word.0)).count (p.locks (lock_at w word.0)).count s }
+  still p q s = record { sent = sent_none h ∙ sym (other_serves e h o); count = λ j. stays (q.locks (lock_at w word.0)).count (p.locks (lock_at w word.0)).count s }
 
   lined : (l : ℕ) (p q : Part) (ss : List Sent) → AllAre l true ss → (q.locks (lock_at w word.0)).count ≡ (p.locks (lock_at w word.0)).count → Serves w e h word p (record { part = q; sent = ss })
-  lined l p q ss a s = record { sent = lines_none h l ss a ∙ sym (other_serves e h o); count = stays (q.locks (lock_at w word.0)).count (p.locks (lock_at w word.0)).count s }
+  lined l p q ss a s = record { sent = lines_none h l ss a ∙ sym (other_serves e h o); count = λ j. stays (q.locks (lock_at w word.0)).count (p.locks (lock_at w word.0)).count s }
 
   acted : (l : ℕ) (a : Act) (p q : Part) → (q.locks (lock_at w word.0)).count ≡ (p.locks (lock_at w word.0)).count → Serves w e h word p (acts w l a q)
   acted l a p q s = lined l p (acts w l a q).part (acts w l a q).sent (act_sends l (home_of w l) a (q.cells l) (q.homes l)) s
@@ -178,17 +178,17 @@ counted w a word p x false is i j n =
 pub grants_to : (w : Config) (h number value old : ℕ) (word : WordAddr) (a : Access) → Some (unseen a) ≡ offered h number (needed.Ask word value) old true → a.hart.0 ≡ h
 grants_to w h number value old word a made = ap (λ (x : Access). x.hart.0) (ap (λ o. unwrap_or o (unseen a)) made)
 
-granted : (w : Config) (a : Access) (h : ℕ) (word : WordAddr) (b : List Waiter) (p : Part) (x : Waiter) (xs : List Waiter) → b ≡ x ∷ xs → a.hart.0 ≡ x.hart → is_lock w a.word.0 ≡ true → is_lock w word.0 ≡ true
+granted : (w : Config) (a : Access) (h : ℕ) (word : WordAddr) (b : List Waiter) (p : Part) (x : Waiter) (xs : List Waiter) → b ≡ x ∷ xs → a.hart.0 ≡ x.hart → is_lock w a.word.0 ≡ true
     → Serves w (kind.Grant a) h word p (grant_row w (lock_at w a.word.0) b p)
-granted w a h word b p x xs is mine i j = subst (λ y. Serves w (kind.Grant a) h word p (grant_row w (lock_at w a.word.0) y p)) (sym is) (record {
+granted w a h word b p x xs is mine i = subst (λ y. Serves w (kind.Grant a) h word p (grant_row w (lock_at w a.word.0) y p)) (sym is) (record {
   sent = sent_one h (to (cluster_of w x.hart) (LockGrant (hart_id x.hart))) ∙ ap (λ y. one y h) (sym mine);
-  count = counted w a.word word p (record { value = x.value; count = raised most (p.locks (lock_at w a.word.0)).count; queue = xs }) (a.word.0 == word.0) refl i j refl;
+  count = λ j. counted w a.word word p (record { value = x.value; count = raised most (p.locks (lock_at w a.word.0)).count; queue = xs }) (a.word.0 == word.0) refl i j refl;
 })
 
-freed : (w : Config) (f : ClusterId) (a : Access) (h : ℕ) (word : WordAddr) (p : Part) → is_lock w a.word.0 ≡ true → is_lock w word.0 ≡ true → Serves w (kind.Free f a) h word p (free_row w (lock_at w a.word.0) a.hart p)
-freed w f a h word p i j = record {
+freed : (w : Config) (f : ClusterId) (a : Access) (h : ℕ) (word : WordAddr) (p : Part) → is_lock w a.word.0 ≡ true → Serves w (kind.Free f a) h word p (free_row w (lock_at w a.word.0) a.hart p)
+freed w f a h word p i = record {
   sent = sent_one h (to (cluster_of w a.hart.0) (UnlockAck a.hart (p.locks (lock_at w a.word.0)).value));
-  count = counted w a.word word p (record { value = 0; count = raised most (p.locks (lock_at w a.word.0)).count; queue = (p.locks (lock_at w a.word.0)).queue }) (a.word.0 == word.0) refl i j refl;
+  count = λ j. counted w a.word word p (record { value = 0; count = raised most (p.locks (lock_at w a.word.0)).count; queue = (p.locks (lock_at w a.word.0)).queue }) (a.word.0 == word.0) refl i j refl;
 }
 
 lock_msg : (g h : ℕ) (m : Msg) (need : Need) (p : Part) → LockSends g m need p → answer_msg h m ≡ 0
@@ -227,19 +227,19 @@ word_of_lock : (w : Config) (c : ℕ) (word : WordAddr) → own_lock w c word �
 word_of_lock w c word e = both_left (is_lock w word.0) (lock_home w (lock_at w word.0) == c) e
 
 -- each event
-pub served : (w : Config) (c : ℕ) (e : Kind) (d : HartEffect) (p : Part) (h : ℕ) (word : WordAddr) → is_lock w word.0 ≡ true → Guard w c e d p → Serves w e h word p (row w c e d p)
+pub served : (w : Config) (c : ℕ) (e : Kind) (d : HartEffect) (p : Part) (h : ℕ) (word : WordAddr) → Guard w c e d p → Serves w e h word p (row w c e d p)
 unfolding row Guard
-served w c (kind.Hint g pc slot) d p h word j can = subst (λ n. Serves w (kind.Hint g pc slot) h word p (hint_row w g.0 slot n (retire g.0 d p))) (sym can.next.retires.need_is) (hinted w (kind.Hint g pc slot) h word tt g.0 slot can.kinds can.address p (retire g.0 d p) refl)
-served w c (kind.Commit g n k v) d p h word j can = drained w (kind.Commit g n k v) h word tt g.0 k.0 (p.harts g.0).buffer p
-served w c (kind.Rmw a k v) d p h word j can = acted w (kind.Rmw a k v) h word tt k.0 (Commit a.hart.0 (written_in w a.word.0 a.mask (unwrap_or a.written 0) (content (p.cells k.0).copy))) p (change a.hart.0 (record (p.harts a.hart.0) { core = d.next; reserved = rmw_reserved a.op (p.harts a.hart.0).reserved }) p) refl
-served w c (kind.LockSend g m) d p h word j can = record { sent = sent_one h (to (lock_target w m) m) ∙ lock_msg g.0 h m can.need p can.sends; count = refl }
-served w c (kind.BusRead g k) d p h word j can = acted w (kind.BusRead g k) h word tt k.0 (BusRead g.0) p p refl
-served w c (kind.BusOwn g k) d p h word j can = acted w (kind.BusOwn g k) h word tt k.0 (BusOwn g.0) p p refl
-served w c (kind.Evict g k) d p h word j can = acted w (kind.Evict g k) h word tt k.0 (evict_act g.0 (p.cells k.0).copy) p p refl
-served w c (kind.Ask slot g k own) d p h word j can = acted w (kind.Ask slot g k own) h word tt k.0 (ask_act own slot g.0) p p refl
-served w c (kind.Again slot k) d p h word j can = acted w (kind.Again slot k) h word tt k.0 Again p p refl
-served w c (kind.Install slot g k) d p h word j can = acted w (kind.Install slot g k) h word tt k.0 Install p (change g.0 (kept w k.0 (p.cells k.0).slot (held_by g.0 (p.cells k.0).copy) (p.harts g.0)) p) refl
-served w c (kind.Grant a) d p h word j can = granted w a h word (p.locks (lock_at w a.word.0)).queue p can.waiter can.others can.queue (grants_to w can.waiter.hart can.waiter.number can.waiter.value 0 a.word a can.access.made) (word_of_lock w c a.word can.mine) j
-served w c (kind.Free f a) d p h word j can = freed w f a h word p (word_of_lock w c a.word (both_right (has_hart w a.hart) (own_lock w c a.word) can.serves)) j
-served w c (kind.Take f m) d p h word j can = taken_if w c f m h word d p (applies w c m p)
-served w c _ d p h word j can = record { sent = sent_none h; count = refl }
+served w c (kind.Hint g pc slot) d p h word can = subst (λ n. Serves w (kind.Hint g pc slot) h word p (hint_row w g.0 slot n (retire g.0 d p))) (sym can.next.retires.need_is) (hinted w (kind.Hint g pc slot) h word tt g.0 slot can.kinds can.address p (retire g.0 d p) refl)
+served w c (kind.Commit g n k v) d p h word can = drained w (kind.Commit g n k v) h word tt g.0 k.0 (p.harts g.0).buffer p
+served w c (kind.Rmw a k v) d p h word can = acted w (kind.Rmw a k v) h word tt k.0 (Commit a.hart.0 (written_in w a.word.0 a.mask (unwrap_or a.written 0) (content (p.cells k.0).copy))) p (change a.hart.0 (record (p.harts a.hart.0) { core = d.next; reserved = rmw_reserved a.op (p.harts a.hart.0).reserved }) p) refl
+served w c (kind.LockSend g m) d p h word can = record { sent = sent_one h (to (lock_target w m) m) ∙ lock_msg g.0 h m can.need p can.sends; count = λ j. refl }
+served w c (kind.BusRead g k) d p h word can = acted w (kind.BusRead g k) h word tt k.0 (BusRead g.0) p p refl
+served w c (kind.BusOwn g k) d p h word can = acted w (kind.BusOwn g k) h word tt k.0 (BusOwn g.0) p p refl
+served w c (kind.Evict g k) d p h word can = acted w (kind.Evict g k) h word tt k.0 (evict_act g.0 (p.cells k.0).copy) p p refl
+served w c (kind.Ask slot g k own) d p h word can = acted w (kind.Ask slot g k own) h word tt k.0 (ask_act own slot g.0) p p refl
+served w c (kind.Again slot k) d p h word can = acted w (kind.Again slot k) h word tt k.0 Again p p refl
+served w c (kind.Install slot g k) d p h word can = acted w (kind.Install slot g k) h word tt k.0 Install p (change g.0 (kept w k.0 (p.cells k.0).slot (held_by g.0 (p.cells k.0).copy) (p.harts g.0)) p) refl
+served w c (kind.Grant a) d p h word can = granted w a h word (p.locks (lock_at w a.word.0)).queue p can.waiter can.others can.queue (grants_to w can.waiter.hart can.waiter.number can.waiter.value 0 a.word a can.access.made) (word_of_lock w c a.word can.mine)
+served w c (kind.Free f a) d p h word can = freed w f a h word p (word_of_lock w c a.word (both_right (has_hart w a.hart) (own_lock w c a.word) can.serves))
+served w c (kind.Take f m) d p h word can = taken_if w c f m h word d p (applies w c m p)
+served w c _ d p h word can = record { sent = sent_none h; count = λ j. refl }
