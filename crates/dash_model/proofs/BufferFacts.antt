@@ -120,7 +120,7 @@ waits_by log e h b c (Gone x none one is) k = gone_waits log e h x c k.committed
 waits_by log e h b c (More a one still more) k = more_waits log e h b c a one still more k
 
 -- an event of another cluster is none of the hart's
-not_mine : (w : Config) (c g h : ℕ) → cluster_of w g ≡ c → cluster_of w h ≢ c → (g == h) ≡ false
+pub not_mine : (w : Config) (c g h : ℕ) → cluster_of w g ≡ c → cluster_of w h ≢ c → (g == h) ≡ false
 not_mine w c g h mine other = elim (same_or_not g h) [ inl e ↦ absurd (other (ap (cluster_of w) (sym e) ∙ mine)) | inr n ↦ grind (arith, nat_tests) ]
 
 no_store : (w : Config) (c : ℕ) (e : Kind) (d : HartEffect) (p : Part) (h : ℕ) → cluster_of w h ≢ c → Guard w c e d p → store_by h e ≡ []

@@ -1,5 +1,5 @@
 -- What a step changes, and how stamps rise.
-use Rattle.std.proofs.Common.{◌≡◌, ◌≢◌, ◌⊎◌, ℕ, ◌≤◌, ◌==◌, false, cond, max, List, [], ◌∷◌, map, refl, ap, ◌∙◌, inl, inr, arith}
+use Rattle.std.proofs.Common.{◌≡◌, ◌≢◌, ◌⊎◌, ℕ, ◌<◌, ◌≤◌, ◌==◌, false, cond, max, List, [], ◌∷◌, map, refl, ap, ◌∙◌, inl, inr, arith}
 use Rattle.std.proofs.lemmas.Bool.Decides.{nat_tests}
 use Rattle.dash_msg.specs.declared.classes.Class.{Class}
 use Rattle.dash_msg.specs.declared.parcel.Sent.{Sent}
@@ -12,8 +12,8 @@ use Rattle.dash_model.specs.Net.{packet, in_lane, lane}
 use Rattle.dash_model.specs.Part.{Part}
 use Rattle.dash_model.specs.Row.{row}
 use Rattle.dash_model.specs.Machine.{Machine, Step, stamp_of, taken, AtHead, less, part_after, CanHappen}
-use Rattle.dash_model.specs.LocalRun.{IsLocalRun}
-use Rattle.dash_model.specs.MachineLaws.{TakesHead, ChangesOnePart, IsAbove, StampsFrom}
+use Rattle.dash_model.specs.LocalRun.{IsLocalRun, StampsFit}
+use Rattle.dash_model.specs.MachineLaws.{TakesHead, ChangesOnePart, StampsFrom, StampsOf}
 use Rattle.dash_model.proofs.Lanes.{lane-send}
 
 part_other : (m : Machine) (k c : ℕ) (q : Part) → c ≢ k → cond (c == k) q (m.parts c) ≡ m.parts c
@@ -50,11 +50,23 @@ max_left a b = grind arith
 max_right : (a b : ℕ) → b ≤ max a b
 max_right a b = grind arith
 
-above : (before m t : ℕ) → before ≤ m → t ≡ raised most m → IsAbove t before
-above before m t l e = grind (arith, nat_tests)
+above : (before m t : ℕ) → before ≤ m → t ≡ raised most m → t < most → before < t
+above before m t l e h = grind (arith, nat_tests)
 
-pub stamps_rise : (w : Config) (c : ℕ) (p : Part) (gs : List Step) → IsLocalRun w c p gs → StampsFrom c p.last gs
-stamps_rise w c p [] r = tt
-stamps_rise w c p (g ∷ gs) r =
+no_less : (before m t : ℕ) → before ≤ m → t ≡ raised most m → before ≤ t
+no_less before m t l e = grind (arith, nat_tests)
+
+rise : (w : Config) (c : ℕ) (p : Part) (gs : List Step) → IsLocalRun w c p gs → StampsFit gs → StampsFrom ◌<◌ c p.last gs
+rise w c p [] r h = tt
+rise w c p (g ∷ gs) r h =
     let u = stamp_of (taken c g.stamp g.event.kind) in
-    (above p.last (max p.last u) g.event.stamp (max_left p.last u) r.0.stamp, above u (max p.last u) g.event.stamp (max_right p.last u) r.0.stamp, stamps_rise w c (part_after w c g p) gs r.1)
+    (above p.last (max p.last u) g.event.stamp (max_left p.last u) r.0.stamp h.0, above u (max p.last u) g.event.stamp (max_right p.last u) r.0.stamp h.0, rise w c (part_after w c g p) gs r.1 h.1)
+
+never_fall : (w : Config) (c : ℕ) (p : Part) (gs : List Step) → IsLocalRun w c p gs → StampsFrom ◌≤◌ c p.last gs
+never_fall w c p [] r = tt
+never_fall w c p (g ∷ gs) r =
+    let u = stamp_of (taken c g.stamp g.event.kind) in
+    (no_less p.last (max p.last u) g.event.stamp (max_left p.last u) r.0.stamp, no_less u (max p.last u) g.event.stamp (max_right p.last u) r.0.stamp, never_fall w c (part_after w c g p) gs r.1)
+
+pub stamps_rise : (w : Config) (c : ℕ) (p : Part) (gs : List Step) → IsLocalRun w c p gs → StampsOf c p.last gs
+stamps_rise w c p gs r = record { rise = rise w c p gs r; never_fall = never_fall w c p gs r }

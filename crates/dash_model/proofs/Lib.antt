@@ -18,6 +18,7 @@ pub mod Buffers
 pub mod Written
 pub mod Stores
 pub mod Told
+pub mod Budgets
 pub mod Reached
 pub mod LineFacts
 pub mod BufferFacts

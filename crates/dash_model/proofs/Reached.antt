@@ -1,14 +1,17 @@
 -- Every run keeps the invariant of each line of memory, with the content that the log tells.
-use Rattle.std.proofs.Common.{◌≡◌, ℕ, ◌+◌, ◌<◌, true, cond, None, Some, List, [], ◌∷◌, ◌++◌, map, append-nil, refl, sym, ap, subst, inl, inr, arith}
-use Rattle.std.proofs.lemmas.List.{append_assoc}
+use Rattle.std.proofs.Common.{◌≡◌, ℕ, ◌+◌, ◌≤◌, ◌<◌, true, cond, None, Some, List, [], ◌∷◌, ◌++◌, length, map, append-nil, refl, sym, ap, ◌∙◌, subst, inl, inr, arith}
+use Rattle.std.proofs.lemmas.Grind.{flat_map-append}
+use Rattle.std.proofs.lemmas.List.{append_assoc, length-append}
 use Rattle.dash_base.specs.declared.line.Line.{Line}
 use Rattle.dash_event.specs.declared.event.Event.{Event}
-use Rattle.dash_model.specs.Maps.{weigh}
-use Rattle.dash_model.specs.Config.{Config, lines, home_of, opening_line}
+use Rattle.dash_model.specs.Maps.{weigh, most}
+use Rattle.dash_model.specs.Config.{Config, line_id, lines, home_of, opening_line}
 use Rattle.dash_model.specs.Cell.{Copy, NoCopy, Held}
 use Rattle.dash_model.specs.Words.{in_m, content}
 use Rattle.dash_model.specs.Machine.{Machine, Step, event_of, CanHappen, after, opening, AreSteps, state_after, Reaches}
 use Rattle.dash_model.specs.OnLine.{on}
+use Rattle.dash_model.specs.Log.{commit_in, commits_of}
+use Rattle.dash_model.specs.History.{version_of}
 use Rattle.dash_model.proofs.SameLine.{same-self}
 use Rattle.dash_model.proofs.Facts.{AtHome, Facts, Contents, owner_off, came_off}
 use Rattle.dash_model.proofs.Contents.{off_not}
@@ -18,6 +21,7 @@ use Rattle.dash_model.proofs.Views.{content_by}
 use Rattle.dash_model.proofs.Lift.{Holds, keeps_line}
 use Rattle.dash_model.proofs.Stores.{IsListed, Listed, step_listed}
 use Rattle.dash_model.proofs.Told.{Told, Knows, told_step, opening_told}
+use Rattle.dash_model.proofs.Budgets.{below_greatest}
 
 opening_facts : (w : Config) (l x : ℕ) → Facts (home_of w l) (along w l (opening w)) AtHome x
 unfolding on weigh
@@ -60,8 +64,8 @@ owner_has h (Held [] o d) v r e z = absurd (cc)
 owner_has h (Held (x ∷ y ∷ ys) o d) v r e z = absurd (cc)
 owner_has h NoCopy v r e z = absurd (cc)
 
-step_at : (w : Config) (log : List Event) (l : ℕ) (m : Machine) (g : Step) → l < lines w → CanHappen w m g → IsAt w log l m → IsAt w (log ++ g.event ∷ []) l (after w m g)
-step_at w log l m g i can k =
+step_at : (w : Config) (log : List Event) (l : ℕ) (m : Machine) (g : Step) → l < lines w → version_of (log ++ g.event ∷ []) l ≤ most → CanHappen w m g → IsAt w log l m → IsAt w (log ++ g.event ∷ []) l (after w m g)
+step_at w log l m g i low can k =
     let c = g.event.cluster.0 in
     let knows : Knows w c log l k.content (m.parts c) = record {
       listed = λ h mine. subst (λ z. IsListed w log h ((m.parts z).harts h)) mine (k.listed h);
@@ -70,13 +74,26 @@ step_at w log l m g i can k =
     record {
       content = content_by w (m.parts c) l k.content g.event.kind;
       holds = keeps_line w l k.content m g i can k.holds;
-      told = told_step w c log g.event l k.content g.done (m.parts c) g.event.kind refl can.steps.guard knows k.told;
+      told = told_step w c log g.event l k.content g.done (m.parts c) g.event.kind refl can.steps.guard knows low k.told;
       listed = step_listed w log m g can k.listed;
     }
 
-steps_at : (w : Config) (log : List Event) (l : ℕ) (m : Machine) (gs : List Step) → l < lines w → AreSteps w m gs → IsAt w log l m → IsAt w (log ++ map event_of gs) l (state_after w m gs)
-steps_at w log l m [] i s k = subst (λ es. IsAt w es l m) (sym (append-nil log)) k
-steps_at w log l m (g ∷ gs) i s k = subst (λ es. IsAt w es l (state_after w (after w m g) gs)) (append_assoc log (g.event ∷ []) (map event_of gs)) (steps_at w (log ++ g.event ∷ []) l (after w m g) gs i s.1 (step_at w log l m g i s.0 k))
+-- a log has no fewer commits than its beginning
+version_first : (xs ys : List Event) (l : ℕ) → version_of xs l ≤ version_of (xs ++ ys) l
+version_first xs ys l =
+    let sum : version_of (xs ++ ys) l ≡ version_of xs l + version_of ys l = ap length (flat_map-append (λ e. commit_in (line_id l) e.kind) xs ys) ∙ length-append (commits_of xs (line_id l)) (commits_of ys (line_id l)) in
+    omega arith
+
+steps_at : (w : Config) (log : List Event) (l : ℕ) (m : Machine) (gs : List Step) → l < lines w → version_of (log ++ map event_of gs) l ≤ most → AreSteps w m gs → IsAt w log l m → IsAt w (log ++ map event_of gs) l (state_after w m gs)
+steps_at w log l m [] i low s k = subst (λ es. IsAt w es l m) (sym (append-nil log)) k
+steps_at w log l m (g ∷ gs) i low s k =
+    let whole = append_assoc log (g.event ∷ []) (map event_of gs) in
+    let all : version_of ((log ++ g.event ∷ []) ++ map event_of gs) l ≤ most = subst (λ es. version_of es l ≤ most) (sym whole) low in
+    let first = version_first (log ++ g.event ∷ []) (map event_of gs) l in
+    subst (λ es. IsAt w es l (state_after w (after w m g) gs)) whole (steps_at w (log ++ g.event ∷ []) l (after w m g) gs i all s.1 (step_at w log l m g i (omega arith) s.0 k))
 
 pub each_reached : (w : Config) (log : List Event) (m : Machine) (l : ℕ) → l < lines w → Reaches w log m → IsAt w log l m
-each_reached w log m l i r = subst (IsAt w log l) (sym r.state) (subst (λ es. IsAt w es l (state_after w (opening w) r.run.steps)) r.run.events (steps_at w [] l (opening w) r.run.steps i r.run.happen (opening_at w l)))
+each_reached w log m l i r =
+    let less = below_greatest w log (line_id l) r.run in
+    let low : version_of (map event_of r.run.steps) l ≤ most = subst (λ es. version_of es l ≤ most) (sym r.run.events) (omega arith) in
+    subst (IsAt w log l) (sym r.state) (subst (λ es. IsAt w es l (state_after w (opening w) r.run.steps)) r.run.events (steps_at w [] l (opening w) r.run.steps i low r.run.happen (opening_at w l)))

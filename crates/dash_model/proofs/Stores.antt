@@ -110,7 +110,7 @@ beyond w c (kind.Store a) d p h n can low =
     not_this h n a (a.hart.0 == h) (a.number == n) refl refl (λ same. (let less = low (ap (cluster_of w) same ∙ store_mine w c a d p can) in let number = store_number w c a d p h can same in omega arith))
 beyond w c _ d p h n can low = refl
 
-rises : (e : Kind) (h : ℕ) (s t : Processor) → Buffer e h s t → s.core.retired ≤ t.core.retired
+pub rises : (e : Kind) (h : ℕ) (s t : Processor) → Buffer e h s t → s.core.retired ≤ t.core.retired
 rises e h s t (Kept b r) = r
 rises e h s t (Dropped x g n z v q b r) = r
 rises e h s t (Added a is mine number b r) = omega (arith, r)

@@ -1,5 +1,5 @@
 -- A content that the log tells: what the commits of a line, over its opening words, make of it.
-use Rattle.std.proofs.Common.{◌≡◌, ℕ, zero, suc, ◌+◌, ◌*◌, ◌≤◌, ◌<◌, ◌==◌, Bool, true, false, cond, nat_lt, min, Some, List, [], ◌∷◌, ◌++◌, fold, length, if◌then◌else◌, slice_index_or, unwrap_or, append-nil, refl, sym, ap, ap₂, ◌∙◌, subst, arith}
+use Rattle.std.proofs.Common.{◌≡◌, ℕ, zero, suc, ◌+◌, ◌*◌, ◌≤◌, ◌<◌, ◌==◌, Bool, true, false, cond, nat_lt, Some, List, [], ◌∷◌, ◌++◌, fold, length, if◌then◌else◌, slice_index_or, unwrap_or, append-nil, refl, sym, ap, ap₂, ◌∙◌, subst, arith}
 use Rattle.std.proofs.lemmas.Bool.Decides.{nat_tests}
 use Rattle.std.proofs.lemmas.Grind.{flat_map-append, fold-append}
 use Rattle.std.proofs.Math.Seq.{take-length}
@@ -57,7 +57,7 @@ told_stays w log e l d none k =
     let same : commits_of (log ++ e ∷ []) (line_id l) ≡ commits_of log (line_id l) = commits_more log e (line_id l) ∙ ap (λ ks. commits_of log (line_id l) ++ ks) none ∙ append-nil (commits_of log (line_id l)) in
     record {
       four = k.four;
-      version = k.version ∙ sym (ap (λ ks. min (length ks) most) same);
+      version = k.version ∙ sym (ap length same);
       words = λ address inside line more. k.words address inside line (e ∷ more) ∙ sym (ap₂ (λ es ks. word_by w es ks address) (append_assoc log (e ∷ []) more) same);
     }
 
@@ -65,22 +65,19 @@ length_more : (ks : List Kind) (k : Kind) → length (ks ++ k ∷ []) ≡ length
 length_more [] k = refl
 length_more (x ∷ xs) k = let ih = length_more xs k in omega arith
 
--- one version more, which stays at its greatest value
-next_by : (n v k : ℕ) (b : Bool) → v ≡ min n k → nat_lt v k ≡ b → cond b (v + 1) v ≡ min (n + 1) k
-next_by n v k true e t = let less : v < k = grind (arith, nat_tests) in omega (arith, e, less)
-next_by n v k false e t = let more : k ≤ v = grind (arith, nat_tests) in omega (arith, e, more)
-
-next_version : (n : ℕ) → raised most (min n most) ≡ min (n + 1) most
-next_version n = next_by n (min n most) most (nat_lt (min n most) most) refl refl
+-- below the greatest version, one more is just that
+pub raised_below : (n : ℕ) → n < most → raised most n ≡ n + 1
+raised_below n low = let test : nat_lt n most ≡ true = grind (arith, nat_tests) in ap (λ b. cond b (n + 1) n) test
 
 -- an event that commits the line
-told_writes : (w : Config) (log : List Event) (e : Event) (l : ℕ) (d : Line) (x : Kind) (a : Access) → commit_in (line_id l) e.kind ≡ x ∷ [] → ((more : List Event) → committed (log ++ e ∷ more) x ≡ Some a) → IsWrite w a → line_at w a.word.0 ≡ l → Told w log l d → Told w (log ++ e ∷ []) l (written_in w a.word.0 a.mask (unwrap_or a.written 0) d)
-told_writes w log e l d x a one found write here k =
+told_writes : (w : Config) (log : List Event) (e : Event) (l : ℕ) (d : Line) (x : Kind) (a : Access) → version_of (log ++ e ∷ []) l ≤ most → commit_in (line_id l) e.kind ≡ x ∷ [] → ((more : List Event) → committed (log ++ e ∷ more) x ≡ Some a) → IsWrite w a → line_at w a.word.0 ≡ l → Told w log l d → Told w (log ++ e ∷ []) l (written_in w a.word.0 a.mask (unwrap_or a.written 0) d)
+told_writes w log e l d x a low one found write here k =
     let ks = commits_of log (line_id l) in
     let next : commits_of (log ++ e ∷ []) (line_id l) ≡ ks ++ x ∷ [] = commits_more log e (line_id l) ∙ ap (λ xs. ks ++ xs) one in
+    let count : version_of (log ++ e ∷ []) l ≡ length ks + 1 = ap length next ∙ length_more ks x in
     record {
       four = four_written w a.word.0 a.mask (unwrap_or a.written 0) d k.four;
-      version = ap (raised most) k.version ∙ next_version (length ks) ∙ sym (ap (λ n. min n most) (ap length next ∙ length_more ks x));
+      version = ap (raised most) k.version ∙ raised_below (length ks) (omega arith) ∙ sym count;
       words = λ address inside line more.
           word_written w a d address write k.four inside (line ∙ sym here)
           ∙ ap (word_after address (step.Access a)) (k.words address inside line (e ∷ more))
@@ -98,7 +95,7 @@ rmw_access h number a word op operand old labels made =
     let same : unseen a ≡ unwrap_or (offered h number (needed.Rmw word op operand labels) old true) (unseen a) = ap (λ z. unwrap_or z (unseen a)) made in
     (ap (λ z. is_of_memory z.op) same, _, ap (λ z. z.written) same)
 
-rmw_writes : (w : Config) (c : ℕ) (a : Access) (k : LineId) (v : ℕ) (d : HartEffect) (p : Part) → Guard w c (kind.Rmw a k v) d p → IsWrite w a
+pub rmw_writes : (w : Config) (c : ℕ) (a : Access) (k : LineId) (v : ℕ) (d : HartEffect) (p : Part) → Guard w c (kind.Rmw a k v) d p → IsWrite w a
 unfolding Guard
 rmw_writes w c a k v d p can =
     let old = word_in w a.word.0 (content (p.cells k.0).copy) in
@@ -111,10 +108,10 @@ pub record Knows (w : Config) (c : ℕ) (log : List Event) (l : ℕ) (d : Line) 
   pub listed : (h : ℕ) → cluster_of w h ≡ c → IsListed w log h (p.harts h)
   pub owned : (h : ℕ) → in_m h (p.cells l).copy ≡ true → content (p.cells l).copy ≡ d
 
-commit_told : (w : Config) (c : ℕ) (log : List Event) (e : Event) (l : ℕ) (d : Line) (h : HartId) (n v : ℕ) (k : LineId) (x : HartEffect) (p : Part) (b : Bool) → (k.0 == l) ≡ b → e.kind ≡ kind.Commit h n k v → Guard w c (kind.Commit h n k v) x p → Knows w c log l d p → Told w log l d → Told w (log ++ e ∷ []) l (cond b (stored_over w (p.harts h.0).buffer (content (p.cells k.0).copy)) d)
+commit_told : (w : Config) (c : ℕ) (log : List Event) (e : Event) (l : ℕ) (d : Line) (h : HartId) (n v : ℕ) (k : LineId) (x : HartEffect) (p : Part) (b : Bool) → (k.0 == l) ≡ b → e.kind ≡ kind.Commit h n k v → Guard w c (kind.Commit h n k v) x p → Knows w c log l d p → version_of (log ++ e ∷ []) l ≤ most → Told w log l d → Told w (log ++ e ∷ []) l (cond b (stored_over w (p.harts h.0).buffer (content (p.cells k.0).copy)) d)
 unfolding Guard
-commit_told w c log e l d h n v k x p false test is can knows t = told_stays w log e l d (ap (commit_in (line_id l)) is ∙ ap (λ b. if b then kind.Commit h n k v ∷ [] else []) test) t
-commit_told w c log e l d h n v k x p true test is can knows t =
+commit_told w c log e l d h n v k x p false test is can knows low t = told_stays w log e l d (ap (commit_in (line_id l)) is ∙ ap (λ b. if b then kind.Commit h n k v ∷ [] else []) test) t
+commit_told w c log e l d h n v k x p true test is can knows low t =
     let same : k.0 ≡ l = grind (arith, nat_tests) in
     let all = subst (AllStored w log h.0) can.buffer (knows.listed h.0 can.mine).waiting in
     let first = all.0 in
@@ -123,21 +120,21 @@ commit_told w c log e l d h n v k x p true test is can knows t =
     let found : store_of log h n ≡ Some a = ap (store_of log h) can.number_is ∙ first.found in
     let here : line_at w a.word.0 ≡ l = ap (λ z. line_at w z.word.0) first.entry ∙ can.line ∙ same in
     let makes : stored_over w (p.harts h.0).buffer (content (p.cells k.0).copy) ≡ written_in w a.word.0 a.mask (unwrap_or a.written 0) d = ap (λ b. stored_over w b (content (p.cells k.0).copy)) can.buffer ∙ sym (ap (λ z. written_in w z.word.0 z.mask z.value (content (p.cells k.0).copy)) first.entry) ∙ ap (written_in w a.word.0 a.mask (unwrap_or a.written 0)) current in
-    subst (Told w (log ++ e ∷ []) l) (sym makes) (told_writes w log e l d (kind.Commit h n k v) a (ap (commit_in (line_id l)) is ∙ ap (λ b. if b then kind.Commit h n k v ∷ [] else []) test) (λ more. store_kept log (e ∷ more) h.0 n a found) first.writes here t)
+    subst (Told w (log ++ e ∷ []) l) (sym makes) (told_writes w log e l d (kind.Commit h n k v) a low (ap (commit_in (line_id l)) is ∙ ap (λ b. if b then kind.Commit h n k v ∷ [] else []) test) (λ more. store_kept log (e ∷ more) h.0 n a found) first.writes here t)
 
-rmw_told : (w : Config) (c : ℕ) (log : List Event) (e : Event) (l : ℕ) (d : Line) (a : Access) (k : LineId) (v : ℕ) (x : HartEffect) (p : Part) (b : Bool) → (k.0 == l) ≡ b → e.kind ≡ kind.Rmw a k v → Guard w c (kind.Rmw a k v) x p → Knows w c log l d p → Told w log l d → Told w (log ++ e ∷ []) l (cond b (written_in w a.word.0 a.mask (unwrap_or a.written 0) (content (p.cells k.0).copy)) d)
+rmw_told : (w : Config) (c : ℕ) (log : List Event) (e : Event) (l : ℕ) (d : Line) (a : Access) (k : LineId) (v : ℕ) (x : HartEffect) (p : Part) (b : Bool) → (k.0 == l) ≡ b → e.kind ≡ kind.Rmw a k v → Guard w c (kind.Rmw a k v) x p → Knows w c log l d p → version_of (log ++ e ∷ []) l ≤ most → Told w log l d → Told w (log ++ e ∷ []) l (cond b (written_in w a.word.0 a.mask (unwrap_or a.written 0) (content (p.cells k.0).copy)) d)
 unfolding Guard
-rmw_told w c log e l d a k v x p false test is can knows t = told_stays w log e l d (ap (commit_in (line_id l)) is ∙ ap (λ b. if b then kind.Rmw a k v ∷ [] else []) test) t
-rmw_told w c log e l d a k v x p true test is can knows t =
+rmw_told w c log e l d a k v x p false test is can knows low t = told_stays w log e l d (ap (commit_in (line_id l)) is ∙ ap (λ b. if b then kind.Rmw a k v ∷ [] else []) test) t
+rmw_told w c log e l d a k v x p true test is can knows low t =
     let same : k.0 ≡ l = grind (arith, nat_tests) in
     let current : content (p.cells k.0).copy ≡ d = ap (λ z. content (p.cells z).copy) same ∙ knows.owned a.hart.0 (subst (λ z. in_m a.hart.0 (p.cells z).copy ≡ true) same can.owner) in
-    subst (λ z. Told w (log ++ e ∷ []) l (written_in w a.word.0 a.mask (unwrap_or a.written 0) z)) (sym current) (told_writes w log e l d (kind.Rmw a k v) a (ap (commit_in (line_id l)) is ∙ ap (λ b. if b then kind.Rmw a k v ∷ [] else []) test) (λ more. refl) (rmw_writes w c a k v x p can) (can.line ∙ same) t)
+    subst (λ z. Told w (log ++ e ∷ []) l (written_in w a.word.0 a.mask (unwrap_or a.written 0) z)) (sym current) (told_writes w log e l d (kind.Rmw a k v) a low (ap (commit_in (line_id l)) is ∙ ap (λ b. if b then kind.Rmw a k v ∷ [] else []) test) (λ more. refl) (rmw_writes w c a k v x p can) (can.line ∙ same) t)
 
 -- each event keeps that the log tells the content
-pub told_step : (w : Config) (c : ℕ) (log : List Event) (e : Event) (l : ℕ) (d : Line) (x : HartEffect) (p : Part) (z : Kind) → e.kind ≡ z → Guard w c z x p → Knows w c log l d p → Told w log l d → Told w (log ++ e ∷ []) l (content_by w p l d z)
-told_step w c log e l d x p (kind.Commit h n k v) is can knows t = commit_told w c log e l d h n v k x p (k.0 == l) refl is can knows t
-told_step w c log e l d x p (kind.Rmw a k v) is can knows t = rmw_told w c log e l d a k v x p (k.0 == l) refl is can knows t
-told_step w c log e l d x p _ is can knows t = told_stays w log e l d (ap (commit_in (line_id l)) is) t
+pub told_step : (w : Config) (c : ℕ) (log : List Event) (e : Event) (l : ℕ) (d : Line) (x : HartEffect) (p : Part) (z : Kind) → e.kind ≡ z → Guard w c z x p → Knows w c log l d p → version_of (log ++ e ∷ []) l ≤ most → Told w log l d → Told w (log ++ e ∷ []) l (content_by w p l d z)
+told_step w c log e l d x p (kind.Commit h n k v) is can knows low t = commit_told w c log e l d h n v k x p (k.0 == l) refl is can knows low t
+told_step w c log e l d x p (kind.Rmw a k v) is can knows low t = rmw_told w c log e l d a k v x p (k.0 == l) refl is can knows low t
+told_step w c log e l d x p _ is can knows low t = told_stays w log e l d (ap (commit_in (line_id l)) is) t
 
 -- before a run
 opened : (w : Config) (l address n : ℕ) → n < 4 → place_of w address ≡ n → address ≡ w.top.base + 16 * l + 4 * n → word_in w address (opening_line w l) ≡ opening_word w.image address

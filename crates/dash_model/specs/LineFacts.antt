@@ -43,7 +43,7 @@ tokens_at w l m (SlotAt c) = came_own (cell_at l m c).slot
 tokens_at w l m (ComingTo c) = weigh (brings c) (on l m.net)
 tokens_at w l m (ReturningFrom c) = weigh (gives_back c) (on l m.net)
 
--- a content is the line's current one by the log: its version is the number of the line's commits, or the greatest version; and each of its words is the opening word with all of those commits written over it
+-- a content is the line's current one by the log: its version is the number of the line's commits, and each of its words is the opening word with all of those commits written over it
 pub record IsCurrent (w : Config) (log : List Event) (l : ℕ) (d : Line) : Type 0 where
   pub version : d.version ≡ version_of log l
   pub words : (address : ℕ) → IsInMemory w.top address 4 → line_at w address ≡ l → word_in w address d ≡ word_at w.image log (line_id l) (length (commits_of log (line_id l))) address

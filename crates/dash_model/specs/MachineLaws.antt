@@ -1,5 +1,5 @@
 -- What the laws of the machine say.
-use Rattle.std.specs.Prelude.{◌≡◌, ◌≢◌, ◌⊎◌, ℕ, ◌<◌, ◌≤◌, Some, List, [], ◌∷◌, ◌++◌, map}
+use Rattle.std.specs.Prelude.{◌≡◌, ◌≢◌, ◌⊎◌, ℕ, ◌+◌, ◌<◌, ◌≤◌, Some, List, [], ◌∷◌, ◌++◌, map}
 use Rattle.dash_msg.specs.Classes.{class_of}
 use Rattle.dash_msg.specs.declared.classes.Class.{Class}
 use Rattle.dash_msg.specs.declared.parcel.Sent.{Sent}
@@ -10,7 +10,6 @@ use Rattle.dash_base.specs.declared.id.LineId.{LineId}
 use Rattle.dash_event.specs.declared.access.Access.{Access}
 use Rattle.dash_event.specs.declared.access.Seen.TheVariants.{Line}
 use Rattle.dash_model.specs.History.{version_of}
-use Rattle.dash_model.specs.Maps.{raised, most}
 use Rattle.dash_model.specs.Config.{Config, lines}
 use Rattle.dash_model.specs.Net.{Packet, packet, lane, head, tail, first, rest, send}
 use Rattle.dash_model.specs.Part.{Part, opening_part}
@@ -53,19 +52,20 @@ pub record ChangesOnePart (w : Config) (m : Machine) (g : Step) : Type 0 where
 abbrev pub StepsChangeOnePart : Type 0
 StepsChangeOnePart = (w : Config) (m : Machine) (g : Step) → CanHappen w m g → ChangesOnePart w m g
 
--- one stamp is above another, or both are at the greatest or past it and the one does not fall below the other
-abbrev pub IsAbove : ℕ → ℕ → Type 0
-IsAbove stamp before = (before < stamp) ⊎ ((most ≤ before) × (before ≤ stamp))
+-- each step's stamp stands so to that of the step before it, and to that of the message that it takes
+abbrev pub StampsFrom : (ℕ → ℕ → Type 0) → ℕ → ℕ → List Step → Type 0
+StampsFrom is_before c last [] = Unit {0}
+StampsFrom is_before c last (g ∷ gs) =
+    is_before last g.event.stamp × is_before (stamp_of (taken c g.stamp g.event.kind)) g.event.stamp × StampsFrom is_before c g.event.stamp gs
 
--- each step's stamp is above that of the step before it, and of the message that it takes
-abbrev pub StampsFrom : ℕ → ℕ → List Step → Type 0
-StampsFrom c last [] = Unit {0}
-StampsFrom c last (g ∷ gs) =
-    IsAbove g.event.stamp last × IsAbove g.event.stamp (stamp_of (taken c g.stamp g.event.kind)) × StampsFrom c g.event.stamp gs
+-- the stamps of a cluster's own run rise where they stay below the greatest one, and never fall
+pub record StampsOf (c last : ℕ) (gs : List Step) : Type 0 where
+  pub rise : StampsFit gs → StampsFrom ◌<◌ c last gs
+  pub never_fall : StampsFrom ◌≤◌ c last gs
 
--- the stamps of a cluster's own run rise
+-- those of each do so
 abbrev pub StampsRise : Type 0
-StampsRise = (w : Config) (c : ℕ) (p : Part) (gs : List Step) → IsLocalRun w c p gs → StampsFrom c p.last gs
+StampsRise = (w : Config) (c : ℕ) (p : Part) (gs : List Step) → IsLocalRun w c p gs → StampsOf c p.last gs
 
 -- one step more at the end of a local run
 pub record Grows (w : Config) (c : ℕ) (p : Part) (gs : List Step) (g : Step) : Type 0 where
@@ -99,8 +99,8 @@ EventsHappen = (w : Config) (before rest : List Event) (e : Event) → IsRun w (
 -- a commit makes the version after the line's, and an atomic operation is shown the line's
 abbrev pub CommitsAreNumbered : Type 0
 CommitsAreNumbered =
-    ((w : Config) (before rest : List Event) (e : Event) (h : HartId) (n : ℕ) (k : LineId) (v : ℕ) → k.0 < lines w
-    → IsRun w (before ++ (e ∷ rest)) → e.kind ≡ Commit h n k v → v ≡ raised most (version_of before k.0))
-    × ((w : Config) (before rest : List Event) (e : Event) (a : Access) (k : LineId) (v : ℕ) → k.0 < lines w
+    ((w : Config) (before rest : List Event) (e : Event) (h : HartId) (n : ℕ) (k : LineId) (v : ℕ)
+    → IsRun w (before ++ (e ∷ rest)) → e.kind ≡ Commit h n k v → v ≡ version_of before k.0 + 1)
+    × ((w : Config) (before rest : List Event) (e : Event) (a : Access) (k : LineId) (v : ℕ)
     → IsRun w (before ++ (e ∷ rest)) → e.kind ≡ Rmw a k v
-    → (v ≡ raised most (version_of before k.0)) × (a.seen ≡ Line (version_of before k.0)))
+    → (v ≡ version_of before k.0 + 1) × (a.seen ≡ Line (version_of before k.0)))

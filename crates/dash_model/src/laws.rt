@@ -2,6 +2,7 @@
 ghost use Rattle.dash_model.specs.BufferFacts.{BuffersHoldUncommittedStores};
 ghost use Rattle.dash_model.specs.Cases.{CasesApply};
 ghost use Rattle.dash_model.specs.Example.{ExampleRuns};
+ghost use Rattle.dash_model.specs.History.{VersionsStayBelowGreatest};
 ghost use Rattle.dash_model.specs.LineFacts.{RunsKeepLines};
 ghost use Rattle.dash_model.specs.LockFacts.{MessagesAreInRange, RunsKeepLocks};
 ghost use Rattle.dash_model.specs.MachineLaws.{EventsFixEffects, LanesAreQueues, StepsChangeOnePart, StampsRise, CommitsAreNumbered, EventsHappen, LocalRunsGrow, MergesAreRuns};
@@ -59,8 +60,8 @@ pub fn steps_change_one_part()
     ensures { StepsChangeOnePart }
 {}
 
-/// Where a cluster runs by itself, each event's stamp is above that of the event before it and that of
-/// the message that it takes. Once the greatest stamp is reached, stamps never fall.
+/// Where a cluster runs by itself, and stamps stay below the greatest one, each event's stamp is above that
+/// of the event before it and that of the message that it takes. In any case stamps never fall.
 pub fn stamps_rise()
     ensures { StampsRise }
 {}
@@ -88,8 +89,14 @@ pub fn events_happen()
     ensures { EventsHappen }
 {}
 
-/// In a run each commit makes the version after the current one of its line, and an atomic operation is
-/// shown the current one.
+/// In a run each commit makes the version that is one more than the number of its line's commits before
+/// it, and an atomic operation is shown the version of that number.
 pub fn commits_are_numbered()
     ensures { CommitsAreNumbered }
+{}
+
+/// In a run a line has no more commits than all harts together may retire instructions: the number of harts
+/// times their budget. That is below the greatest version, and so is each version that a commit makes.
+pub fn versions_stay_below_the_greatest()
+    ensures { VersionsStayBelowGreatest }
 {}
