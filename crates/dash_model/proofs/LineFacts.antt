@@ -5,17 +5,17 @@ use Rattle.dash_base.specs.declared.id.ClusterId.{ClusterId}
 use Rattle.dash_base.specs.declared.id.LineId.{LineId}
 use Rattle.dash_base.specs.declared.line.Line.{Line}
 use Rattle.dash_msg.specs.declared.msg.Msg.{Msg}
-use Rattle.dash_msg.specs.declared.msg.Msg.TheVariants.{Inval, WriteBack, SharingBack, Transfer, Data, DataEx}
+use Rattle.dash_msg.specs.declared.msg.Msg.TheVariants.{Read, ReadEx, Inval, WriteBack, SharingBack, Transfer, Data, DataEx}
 use Rattle.dash_event.specs.declared.event.Event.{Event}
 use Rattle.dash_model.specs.Maps.{weigh, member}
 use Rattle.dash_model.specs.Config.{Config, lines, home_of}
 use Rattle.dash_model.specs.Net.{Packet}
-use Rattle.dash_model.specs.OnLine.{one, on, clean, reads, datas, wants, brings, gives_back, leaves, gains, invals, invals_at, counts_to, shares, passes, gains_msg, leaves_msg, passes_msg, invals_msg}
+use Rattle.dash_model.specs.OnLine.{one, on, clean, reads, datas, wants, brings, gives_back, leaves, gains, invals, invals_at, counts_to, shares, passes, gives_back_msg, gains_msg, leaves_msg, passes_msg, invals_msg}
 use Rattle.dash_model.specs.Cell.{Copy, NoCopy, Held, Asked, Poisoned, Came, Refused, Slot, NoSlot, Reads, Owns, Acks, NoAcks, Counting, Expects, Entry, Uncached, SharedBy, Dirty}
 use Rattle.dash_model.specs.Machine.{Machine, Reaches}
-use Rattle.dash_model.specs.LineFacts.{IsOnItsWay, IsCurrent, Holder, InMemory, OwnerAt, SlotAt, ComingTo, ReturningFrom, tokens_at, Token, tokens_for, IsOwnedBy, ThereOrComing, Returning, Passed, waiting_slots, IsReading, IsOwning, CountsAdd, HasThing, ByCopy, BySlot, ByData, IsInvalidated, IsMarked, IsCovered, ByToken, ByMark, BySharing, ByInval, LineFacts}
+use Rattle.dash_model.specs.LineFacts.{IsOnItsWay, IsForHome, to_cluster, IsCurrent, Holder, InMemory, OwnerAt, SlotAt, ComingTo, ReturningFrom, tokens_at, Token, tokens_for, IsOwnedBy, ThereOrComing, Returning, Passed, waiting_slots, IsReading, IsOwning, CountsAdd, HasThing, ByCopy, BySlot, ByData, IsInvalidated, IsMarked, IsCovered, ByToken, ByMark, BySharing, ByInval, LineFacts}
 use Rattle.dash_model.proofs.LineState.{State}
-use Rattle.dash_model.proofs.Facts.{Place, AtHome, At, Back, Moving, Facts, Cover, Contents, Counted, counting, holds, at_home, dirty_of, owner_in, marked, things, held, came_read, asked, other, owner_off, came_off, shared_off, read_off, old_brings, old_backs, old_datas, old_brings_msg, old_backs_msg, old_datas_msg, waits_read, waits_own}
+use Rattle.dash_model.proofs.Facts.{Place, AtHome, At, Back, Moving, Facts, Cover, Contents, Counted, counting, misrouted, misrouted_msg, holds, returns, at_home, dirty_of, owner_in, marked, things, held, came_read, asked, other, owner_off, came_off, shared_off, read_off, old_brings, old_backs, old_datas, old_brings_msg, old_backs_msg, old_datas_msg, waits_read, waits_own}
 use Rattle.dash_model.proofs.Contents.{off_not, owner_current}
 use Rattle.dash_model.proofs.Steps.{Invariant}
 use Rattle.dash_model.proofs.Along.{along, same_or_not}
@@ -86,11 +86,44 @@ back_alone w l m o f z r (SlotAt c) n = let e = f c in omega arith
 back_alone w l m o f z r (ComingTo c) n = let e = f c in omega arith
 back_alone w l m o f z r (ReturningFrom c) n = r c ∙ one_not o c (λ e. n (ap ReturningFrom e))
 
+-- what is for the home goes there
+routed : (h : ℕ) (q : Packet) (m : Msg) → misrouted_msg h q.src q.dst m ≡ 0 → IsForHome m → q.dst ≡ h
+routed h q (Read l) e f = grind (arith, nat_tests)
+routed h q (ReadEx l) e f = grind (arith, nat_tests)
+routed h q (WriteBack l d) e f = grind (arith, nat_tests)
+routed h q (SharingBack l d r) e f = grind (arith, nat_tests)
+routed h q (Transfer l r) e f = grind (arith, nat_tests)
+routed h q _ e f = absurd f
+
+goes_home : (h : ℕ) (net : List Packet) (q : Packet) → weigh (misrouted h) net ≡ 0 → IsOnItsWay q net → IsForHome q.msg → q.dst ≡ h
+goes_home h net q none at f = let some = weigh_at (misrouted h) net q at in routed h q q.msg (omega arith) f
+
+-- so what weighs of it weighs the same to there
+all_home : (h : ℕ) (weight : Packet → ℕ) → ((q : Packet) → misrouted h q ≡ 0 → to_cluster h weight q ≡ weight q) → (net : List Packet) → weigh (misrouted h) net ≡ 0 → weigh (to_cluster h weight) net ≡ weigh weight net
+unfolding weigh
+all_home h weight f [] none = refl
+all_home h weight f (q ∷ qs) none =
+    let here = f q (omega arith) in
+    let there = all_home h weight f qs (omega arith) in
+    omega arith
+
+back_home : (h c a b : ℕ) (m : Msg) → misrouted_msg h a b m ≡ 0 → cond (b == h) (gives_back_msg c a b m) 0 ≡ gives_back_msg c a b m
+back_home h c a b (WriteBack l d) e = grind (arith, nat_tests)
+back_home h c a b (SharingBack l d r) e = grind (arith, nat_tests)
+back_home h c a b _ e = grind arith
+
+pass_home : (h o r a b : ℕ) (m : Msg) → misrouted_msg h a b m ≡ 0 → cond (b == h) (passes_msg o r a b m) 0 ≡ passes_msg o r a b m
+pass_home h o r a b (Transfer l x) e = grind (arith, nat_tests)
+pass_home h o r a b _ e = grind arith
+
+returning : (w : Config) (l : ℕ) (m : Machine) (p : Place) → ((x : ℕ) → Facts (home_of w l) (along w l m) p x) → (c : ℕ) → tokens_at w l m (ReturningFrom c) ≡ returns p c
+returning w l m p k c = all_home (home_of w l) (gives_back c) (λ q e. back_home (home_of w l) c q.src q.dst q.msg e) (on l m.net) (k 0).requests.routed ∙ (k c).tokens.back
+
 one_token : (w : Config) (l : ℕ) (m : Machine) (p : Place) → ((x : ℕ) → Facts (home_of w l) (along w l m) p x) → OneToken w l m
-one_token w l m AtHome k = record { holder = InMemory; there = (k 0).tokens.home; alone = home_alone w l m (λ c. (k c).tokens.token) (λ c. (k c).tokens.back) }
-one_token w l m (At o) k = for_cluster w l m o (λ c. (k c).tokens.token) (k 0).tokens.home (λ c. (k c).tokens.back) (at_one (tokens_at w l m (OwnerAt o)) (tokens_at w l m (SlotAt o)) (tokens_at w l m (ComingTo o)) ((k o).tokens.token ∙ one_self o))
-one_token w l m (Back o) k = record { holder = ReturningFrom o; there = (k o).tokens.back ∙ one_self o; alone = back_alone w l m o (λ c. (k c).tokens.token) (k 0).tokens.home (λ c. (k c).tokens.back) }
-one_token w l m (Moving q o) k = for_cluster w l m o (λ c. (k c).tokens.token) (k 0).tokens.home (λ c. (k c).tokens.back) (at_one (tokens_at w l m (OwnerAt o)) (tokens_at w l m (SlotAt o)) (tokens_at w l m (ComingTo o)) ((k o).tokens.token ∙ one_self o))
+one_token w l m AtHome k = record { holder = InMemory; there = (k 0).tokens.home; alone = home_alone w l m (λ c. (k c).tokens.token) (returning w l m AtHome k) }
+one_token w l m (At o) k = for_cluster w l m o (λ c. (k c).tokens.token) (k 0).tokens.home (returning w l m (At o) k) (at_one (tokens_at w l m (OwnerAt o)) (tokens_at w l m (SlotAt o)) (tokens_at w l m (ComingTo o)) ((k o).tokens.token ∙ one_self o))
+one_token w l m (Back o) k = record { holder = ReturningFrom o; there = returning w l m (Back o) k o ∙ one_self o; alone = back_alone w l m o (λ c. (k c).tokens.token) (k 0).tokens.home (returning w l m (Back o) k) }
+one_token w l m (Moving q o) k = for_cluster w l m o (λ c. (k c).tokens.token) (k 0).tokens.home (returning w l m (Moving q o) k) (at_one (tokens_at w l m (OwnerAt o)) (tokens_at w l m (SlotAt o)) (tokens_at w l m (ComingTo o)) ((k o).tokens.token ∙ one_self o))
 
 -- contents
 memory_is : (p : Place) (v d : Line) (a : ℕ) → a ≡ at_home p → (at_home p ≡ 0) ⊎ (other v d ≡ 0) → a ≡ 1 → d ≡ v
@@ -156,11 +189,11 @@ dirty_clean o e f g = let h : clean (Dirty o) ≡ 1 = subst (λ e. clean e ≡ 1
 same_owner : (o q : ℕ) (e : Entry) → e ≡ Dirty o → dirty_of e q ≡ one q q → one q o ≡ 1
 same_owner o q e f g = let h : one o q ≡ one q q = subst (λ e. dirty_of e q ≡ one q q) f g in grind (arith, nat_tests)
 
-owned_by : (w : Config) (l : ℕ) (m : Machine) (o : ℕ) (p : Place) → ((x : ℕ) → Facts (home_of w l) (along w l m) p x) → (along w l m).home.entry ≡ Dirty o → IsOwnedBy l m o
+owned_by : (w : Config) (l : ℕ) (m : Machine) (o : ℕ) (p : Place) → ((x : ℕ) → Facts (home_of w l) (along w l m) p x) → (along w l m).home.entry ≡ Dirty o → IsOwnedBy w l m o
 owned_by w l m o AtHome k e = absurd (dirty_clean o (along w l m).home.entry e (k 0).tokens.home)
 owned_by w l m o (At q) k e = ThereOrComing ((k o).tokens.token ∙ same_owner o q (along w l m).home.entry e (k q).tokens.entry)
-owned_by w l m o (Back q) k e = Returning ((k o).tokens.back ∙ same_owner o q (along w l m).home.entry e (k q).tokens.entry)
-owned_by w l m o (Moving q r) k e = Passed r (passes_leaves o r (on l m.net) (λ y n. (k y).tokens.gaining ∙ one_not r y n) ∙ (k o).tokens.leaving ∙ same_owner o q (along w l m).home.entry e (k q).tokens.entry) ((k r).tokens.token ∙ one_self r)
+owned_by w l m o (Back q) k e = Returning (returning w l m (Back q) k o ∙ same_owner o q (along w l m).home.entry e (k q).tokens.entry)
+owned_by w l m o (Moving q r) k e = Passed r (all_home (home_of w l) (passes o r) (λ q e. pass_home (home_of w l) o r q.src q.dst q.msg e) (on l m.net) (k 0).requests.routed ∙ passes_leaves o r (on l m.net) (λ y n. (k y).tokens.gaining ∙ one_not r y n) ∙ (k o).tokens.leaving ∙ same_owner o q (along w l m).home.entry e (k q).tokens.entry) ((k r).tokens.token ∙ one_self r)
 
 clean_home : (w : Config) (l : ℕ) (m : Machine) (p : Place) → ((x : ℕ) → Facts (home_of w l) (along w l m) p x) → clean (along w l m).home.entry ≡ 1 → (c : ℕ) → (tokens_for l m c ≡ 0) × (weigh (gives_back c) (on l m.net) ≡ 0)
 clean_home w l m AtHome k e c = ((k c).tokens.token, (k c).tokens.back)
@@ -307,6 +340,7 @@ facts w log l v m is i = record {
     clean_at_home = clean_home w l m i.place (λ x. (i.known x).facts);
     names = λ o e. owned_by w l m o i.place (λ x. (i.known x).facts) e;
   };
+  for_home = λ q at f. goes_home (home_of w l) (on l m.net) q (i.known 0).facts.requests.routed at f;
   requests = λ c. let a = answer (home_of w l) (along w l m) i.place c (i.known c).facts in record { one_each = (i.known c).facts.requests.all ∙ a.0; to_read = a.1.0; to_own = a.1.1 };
   counts = λ c. adds ((along w l m).cells c).slot ((along w l m).cells c).acks (counting c (along w l m)) (weigh (counts_to c) (on l m.net)) (holds i.place c) (i.known c).facts.counts;
   stale = λ c. record {

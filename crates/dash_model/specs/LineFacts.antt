@@ -1,9 +1,10 @@
 -- What every run keeps of each line of memory: one token, an entry that knows where it is, an answer to each request, exact counts of acknowledgements, and an invalidation for whatever is stale.
-use Rattle.std.specs.Prelude.{◌≡◌, ◌≢◌, ◌⊎◌, ℕ, ◌+◌, ◌≤◌, ◌<◌, true, Option, Some, List, [], ◌∷◌, length}
+use Rattle.std.specs.Prelude.{◌≡◌, ◌≢◌, ◌⊎◌, ℕ, ◌+◌, ◌≤◌, ◌<◌, ◌==◌, true, cond, Option, Some, List, [], ◌∷◌, length}
 use Rattle.dash_base.specs.declared.id.ClusterId.{ClusterId}
 use Rattle.dash_base.specs.declared.id.LineId.{LineId}
 use Rattle.dash_base.specs.declared.line.Line.{Line}
-use Rattle.dash_msg.specs.declared.msg.Msg.TheVariants.{Inval, WriteBack, SharingBack, Data, DataEx}
+use Rattle.dash_msg.specs.declared.msg.Msg.{Msg}
+use Rattle.dash_msg.specs.declared.msg.Msg.TheVariants.{Read, ReadEx, Inval, WriteBack, SharingBack, Transfer, Data, DataEx}
 use Rattle.dash_event.specs.declared.event.Event.{Event}
 use Rattle.hart_core.specs.Access.{IsInMemory}
 use Rattle.dash_model.specs.Maps.{weigh, member}
@@ -30,7 +31,24 @@ abbrev pub IsOnItsWay : Packet → List Packet → Type 0
 IsOnItsWay q [] = ⊥
 IsOnItsWay q (p ∷ ps) = (q ≡ p) ⊎ IsOnItsWay q ps
 
--- where the token may be: in the home's memory, with an owner, in a slot that is to own the line, on its way to one, or on its way back from an owner
+-- a message that asks the home for a line, or tells it of one
+abbrev pub IsForHome : Msg → Type 0
+IsForHome (Read l) = Unit {0}
+IsForHome (ReadEx l) = Unit {0}
+IsForHome (WriteBack l d) = Unit {0}
+IsForHome (SharingBack l d r) = Unit {0}
+IsForHome (Transfer l r) = Unit {0}
+IsForHome msg = ⊥
+
+-- each of them is on its way to the line's home
+abbrev pub GoHome : Config → ℕ → Machine → Type 0
+GoHome w l m = (q : Packet) → IsOnItsWay q (on l m.net) → IsForHome q.msg → q.dst ≡ home_of w l
+
+-- a weight, of what goes to cluster h alone
+abbrev pub to_cluster : ℕ → (Packet → ℕ) → Packet → ℕ
+to_cluster h weight q = cond (q.dst == h) (weight q) 0
+
+-- where the token may be: in the home's memory, with an owner, in a slot that is to own the line, on its way to one, or on its way back from an owner to the home
 pub data Holder : Type 0 where
   InMemory : Holder
   OwnerAt SlotAt ComingTo ReturningFrom : (cluster : ℕ) → Holder
@@ -41,7 +59,7 @@ tokens_at w l m InMemory = clean (home_at w l m).entry
 tokens_at w l m (OwnerAt c) = owned (cell_at l m c).copy
 tokens_at w l m (SlotAt c) = came_own (cell_at l m c).slot
 tokens_at w l m (ComingTo c) = weigh (brings c) (on l m.net)
-tokens_at w l m (ReturningFrom c) = weigh (gives_back c) (on l m.net)
+tokens_at w l m (ReturningFrom c) = weigh (to_cluster (home_of w l) (gives_back c)) (on l m.net)
 
 -- a content is the line's current one by the log: its version is the number of the line's commits, and each of its words is the opening word with all of those commits written over it
 pub record IsCurrent (w : Config) (log : List Event) (l : ℕ) (d : Line) : Type 0 where
@@ -64,16 +82,16 @@ pub record Token (w : Config) (log : List Event) (l : ℕ) (m : Machine) : Type 
 abbrev pub tokens_for : ℕ → Machine → ℕ → ℕ
 tokens_for l m c = owned (cell_at l m c).copy + came_own (cell_at l m c).slot + weigh (brings c) (on l m.net)
 
--- what an entry that is Dirty of cluster o means: the token is at o or on its way to it, or on its way back from it, or o passed it on to r, which the home is about to learn
-pub data IsOwnedBy (l : ℕ) (m : Machine) (o : ℕ) : Type 0 where
-  ThereOrComing : tokens_for l m o ≡ 1 → IsOwnedBy l m o
-  Returning : weigh (gives_back o) (on l m.net) ≡ 1 → IsOwnedBy l m o
-  Passed : (r : ℕ) → weigh (passes o r) (on l m.net) ≡ 1 → tokens_for l m r ≡ 1 → IsOwnedBy l m o
+-- what an entry that is Dirty of cluster o means: the token is at o or on its way to it, or on its way from it to the home, or o passed it on to r, as a message to the home tells
+pub data IsOwnedBy (w : Config) (l : ℕ) (m : Machine) (o : ℕ) : Type 0 where
+  ThereOrComing : tokens_for l m o ≡ 1 → IsOwnedBy w l m o
+  Returning : weigh (to_cluster (home_of w l) (gives_back o)) (on l m.net) ≡ 1 → IsOwnedBy w l m o
+  Passed : (r : ℕ) → weigh (to_cluster (home_of w l) (passes o r)) (on l m.net) ≡ 1 → tokens_for l m r ≡ 1 → IsOwnedBy w l m o
 
 -- the entry is Dirty exactly where the token is not in the home's memory, and names who has it
 pub record EntryKnows (w : Config) (l : ℕ) (m : Machine) : Type 0 where
   pub clean_at_home : clean (home_at w l m).entry ≡ 1 → (c : ℕ) → (tokens_for l m c ≡ 0) × (weigh (gives_back c) (on l m.net) ≡ 0)
-  pub names : (o : ℕ) → (home_at w l m).entry ≡ Dirty o → IsOwnedBy l m o
+  pub names : (o : ℕ) → (home_at w l m).entry ≡ Dirty o → IsOwnedBy w l m o
 
 -- whether a slot waits for an answer, and whether one to read, or one to own, does
 abbrev pub waiting_slots : Slot → ℕ
@@ -150,6 +168,7 @@ pub record OneEpoch (w : Config) (l : ℕ) (m : Machine) : Type 0 where
 pub record LineFacts (w : Config) (log : List Event) (l : ℕ) (m : Machine) : Type 0 where
   pub token : Token w log l m
   pub entry : EntryKnows w l m
+  pub for_home : GoHome w l m
   pub requests : (c : ℕ) → OneAnswer l m c
   pub counts : (c : ℕ) → CountIsExact l m c
   pub stale : (c : ℕ) → StaleIsInvalidated w log l m c
