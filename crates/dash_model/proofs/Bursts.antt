@@ -74,8 +74,8 @@ counts_to-burst x l t a r cs = free (counts_to x) l t a r (λ c. refl) cs
 pub shares-burst : (x : ℕ) (l : LineId) (t a r : ℕ) (cs : List ℕ) → weigh (shares x) (burst l t a r cs) ≡ 0
 shares-burst x l t a r cs = free (shares x) l t a r (λ c. refl) cs
 
-pub misrouted-burst : (h : ℕ) (l : LineId) (t a r : ℕ) (cs : List ℕ) → weigh (misrouted h) (burst l t a r cs) ≡ 0
-misrouted-burst h l t a r cs = free (misrouted h) l t a r (λ c. refl) cs
+pub misrouted-burst : (h : ℕ) (l : LineId) (t r : ℕ) (cs : List ℕ) → weigh (misrouted h) (burst l t h r cs) ≡ 0
+misrouted-burst h l t r cs = free (misrouted h) l t h r (λ c. let e : (h == h) ≡ true = grind (arith, nat_tests) in ap (λ b. cond {A = ℕ} b 0 1) e) cs
 
 pub back_any-burst : (l : LineId) (t a r : ℕ) (cs : List ℕ) → weigh back_any (burst l t a r cs) ≡ 0
 back_any-burst l t a r cs = free back_any l t a r (λ c. refl) cs

@@ -2,7 +2,7 @@
 use Rattle.std.specs.Prelude.{◌≡◌, ◌⊎◌, ℕ, ◌+◌, ◌≤◌, ◌<◌, ◌==◌, cond, None, Some}
 use Rattle.dash_base.specs.declared.line.Line.{Line}
 use Rattle.dash_msg.specs.declared.msg.Msg.{Msg}
-use Rattle.dash_msg.specs.declared.msg.Msg.TheVariants.{Read, ReadEx, Inval, WriteBack, SharingBack, Transfer, Data, DataEx}
+use Rattle.dash_msg.specs.declared.msg.Msg.TheVariants.{Read, ReadEx, FwdRead, FwdReadEx, Inval, WriteBack, SharingBack, Transfer, TransferAck, Data, DataEx}
 use Rattle.dash_model.specs.Maps.{weigh, member}
 use Rattle.dash_model.specs.Net.{Packet}
 use Rattle.dash_model.specs.OnLine.{came_own, owned, clean, one, reads, datas, wants, brings, naks, gives_back, leaves, gains, invals, invals_at, acks_to, counts_to, shares}
@@ -10,24 +10,31 @@ use Rattle.dash_model.specs.Cell.{Copy, NoCopy, Held, Asked, Poisoned, Came, Ref
 use Rattle.dash_model.proofs.LineState.{State}
 use Rattle.dash_model.proofs.SameLine.{same_line}
 
--- weights of messages: those that ask to read for x, those with a copy for x, and so on; each message from a to b
+-- of a message from a to b: 1 where it invalidates x on behalf of x
 abbrev pub own_invals_msg : ℕ → ℕ → ℕ → Msg → ℕ
 own_invals_msg x a b (Inval l r) = cond (b == x) (one r.0 x) 0
 own_invals_msg x a b _ = 0
 
+-- 1 where it is for home h and goes elsewhere, or what h alone sends and comes from elsewhere
 abbrev pub misrouted_msg : ℕ → ℕ → ℕ → Msg → ℕ
 misrouted_msg h a b (Read l) = cond (b == h) 0 1
 misrouted_msg h a b (ReadEx l) = cond (b == h) 0 1
 misrouted_msg h a b (WriteBack l d) = cond (b == h) 0 1
 misrouted_msg h a b (SharingBack l d r) = cond (b == h) 0 1
 misrouted_msg h a b (Transfer l r) = cond (b == h) 0 1
+misrouted_msg h a b (FwdRead l r) = cond (a == h) 0 1
+misrouted_msg h a b (FwdReadEx l r) = cond (a == h) 0 1
+misrouted_msg h a b (Inval l r) = cond (a == h) 0 1
+misrouted_msg h a b (TransferAck l) = cond (a == h) 0 1
 misrouted_msg h a b _ = 0
 
+-- 1 where it carries a line back
 abbrev pub back_any_msg : Msg → ℕ
 back_any_msg (WriteBack l d) = 1
 back_any_msg (SharingBack l d r) = 1
 back_any_msg _ = 0
 
+-- the same of packets
 abbrev pub own_invals : ℕ → Packet → ℕ
 own_invals x p = own_invals_msg x p.src p.dst p.msg
 

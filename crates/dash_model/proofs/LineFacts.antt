@@ -5,7 +5,7 @@ use Rattle.dash_base.specs.declared.id.ClusterId.{ClusterId}
 use Rattle.dash_base.specs.declared.id.LineId.{LineId}
 use Rattle.dash_base.specs.declared.line.Line.{Line}
 use Rattle.dash_msg.specs.declared.msg.Msg.{Msg}
-use Rattle.dash_msg.specs.declared.msg.Msg.TheVariants.{Read, ReadEx, Inval, WriteBack, SharingBack, Transfer, Data, DataEx}
+use Rattle.dash_msg.specs.declared.msg.Msg.TheVariants.{Read, ReadEx, FwdRead, FwdReadEx, TransferAck, Inval, WriteBack, SharingBack, Transfer, Data, DataEx}
 use Rattle.dash_event.specs.declared.event.Event.{Event}
 use Rattle.dash_model.specs.Maps.{weigh, member}
 use Rattle.dash_model.specs.Config.{Config, lines, home_of}
@@ -13,9 +13,9 @@ use Rattle.dash_model.specs.Net.{Packet}
 use Rattle.dash_model.specs.OnLine.{one, on, clean, reads, datas, wants, brings, gives_back, leaves, gains, invals, invals_at, counts_to, shares, passes, gives_back_msg, gains_msg, leaves_msg, passes_msg, invals_msg}
 use Rattle.dash_model.specs.Cell.{Copy, NoCopy, Held, Asked, Poisoned, Came, Refused, Slot, NoSlot, Reads, Owns, Acks, NoAcks, Counting, Expects, Entry, Uncached, SharedBy, Dirty}
 use Rattle.dash_model.specs.Machine.{Machine, Reaches}
-use Rattle.dash_model.specs.LineFacts.{IsOnItsWay, IsForHome, to_cluster, IsCurrent, Holder, InMemory, OwnerAt, SlotAt, ComingTo, ReturningFrom, tokens_at, Token, tokens_for, IsOwnedBy, ThereOrComing, Returning, Passed, waiting_slots, IsReading, IsOwning, CountsAdd, HasThing, ByCopy, BySlot, ByData, IsInvalidated, IsMarked, IsCovered, ByToken, ByMark, BySharing, ByInval, LineFacts}
+use Rattle.dash_model.specs.LineFacts.{IsOnItsWay, IsForHome, IsFromHome, to_cluster, IsCurrent, Holder, InMemory, OwnerAt, SlotAt, ComingTo, ReturningFrom, tokens_at, Token, tokens_for, IsOwnedBy, ThereOrComing, Returning, Passed, waiting_slots, IsReading, IsOwning, CountsAdd, HasThing, ByCopy, BySlot, ByData, IsInvalidated, IsMarked, IsCovered, ByToken, ByMark, BySharing, ByInval, LineFacts}
 use Rattle.dash_model.proofs.LineState.{State}
-use Rattle.dash_model.proofs.Facts.{Place, AtHome, At, Back, Moving, Facts, Cover, Contents, Counted, counting, misrouted, misrouted_msg, holds, returns, at_home, dirty_of, owner_in, marked, things, held, came_read, asked, other, owner_off, came_off, shared_off, read_off, old_brings, old_backs, old_datas, old_brings_msg, old_backs_msg, old_datas_msg, waits_read, waits_own}
+use Rattle.dash_model.proofs.Facts.{Place, AtHome, At, Back, Moving, Facts, Cover, Contents, Counted, counting, misrouted, misrouted_msg, own_invals, own_invals_msg, is_reading as slot_reads, holds, returns, at_home, dirty_of, owner_in, marked, things, held, came_read, asked, other, owner_off, came_off, shared_off, read_off, old_brings, old_backs, old_datas, old_brings_msg, old_backs_msg, old_datas_msg, waits_read, waits_own}
 use Rattle.dash_model.proofs.Contents.{off_not, owner_current}
 use Rattle.dash_model.proofs.Steps.{Invariant}
 use Rattle.dash_model.proofs.Along.{along, same_or_not}
@@ -86,7 +86,7 @@ back_alone w l m o f z r (SlotAt c) n = let e = f c in omega arith
 back_alone w l m o f z r (ComingTo c) n = let e = f c in omega arith
 back_alone w l m o f z r (ReturningFrom c) n = r c ∙ one_not o c (λ e. n (ap ReturningFrom e))
 
--- what is for the home goes there
+-- what is for the home goes there, and what it alone sends comes from there
 routed : (h : ℕ) (q : Packet) (m : Msg) → misrouted_msg h q.src q.dst m ≡ 0 → IsForHome m → q.dst ≡ h
 routed h q (Read l) e f = grind (arith, nat_tests)
 routed h q (ReadEx l) e f = grind (arith, nat_tests)
@@ -95,8 +95,15 @@ routed h q (SharingBack l d r) e f = grind (arith, nat_tests)
 routed h q (Transfer l r) e f = grind (arith, nat_tests)
 routed h q _ e f = absurd f
 
-goes_home : (h : ℕ) (net : List Packet) (q : Packet) → weigh (misrouted h) net ≡ 0 → IsOnItsWay q net → IsForHome q.msg → q.dst ≡ h
-goes_home h net q none at f = let some = weigh_at (misrouted h) net q at in routed h q q.msg (omega arith) f
+sent_home : (h : ℕ) (q : Packet) (m : Msg) → misrouted_msg h q.src q.dst m ≡ 0 → IsFromHome m → q.src ≡ h
+sent_home h q (FwdRead l r) e f = grind (arith, nat_tests)
+sent_home h q (FwdReadEx l r) e f = grind (arith, nat_tests)
+sent_home h q (Inval l r) e f = grind (arith, nat_tests)
+sent_home h q (TransferAck l) e f = grind (arith, nat_tests)
+sent_home h q _ e f = absurd f
+
+not_astray : (h : ℕ) (net : List Packet) (q : Packet) → weigh (misrouted h) net ≡ 0 → IsOnItsWay q net → misrouted h q ≡ 0
+not_astray h net q none at = let some = weigh_at (misrouted h) net q at in omega arith
 
 -- so what weighs of it weighs the same to there
 all_home : (h : ℕ) (weight : Packet → ℕ) → ((q : Packet) → misrouted h q ≡ 0 → to_cluster h weight q ≡ weight q) → (net : List Packet) → weigh (misrouted h) net ≡ 0 → weigh (to_cluster h weight) net ≡ weigh weight net
@@ -226,28 +233,37 @@ is_owning (Reads n t x) e = absurd (omega arith)
 pub answer : (h : ℕ) (s : State) (p : Place) (c : ℕ) → Facts h s p c → (waits_read (s.cells c).slot + waits_own (s.cells c).slot ≡ waiting_slots (s.cells c).slot) × ((1 ≤ weigh (reads c) s.net + weigh (datas c) s.net → IsReading (s.cells c).slot) × (1 ≤ weigh (wants c) s.net + weigh (brings c) s.net → IsOwning (s.cells c).slot))
 answer h s p c k = (waits (s.cells c).slot (s.cells c).acks (counting c s) (weigh (counts_to c) s.net) (holds p c) k.counts, (λ e. is_reading (s.cells c).slot (let f = k.requests.read in omega arith), λ e. is_owning (s.cells c).slot (let f = k.requests.own in omega arith)))
 
-adds : (s : Slot) (k : Acks) (a d h : ℕ) → Counted s k a d h → CountsAdd k a d
-adds s NoAcks a d h e = tt
-adds (Owns n t Asked) (Counting g o) a d h e = e
-adds (Owns n t Refused) (Counting g o) a d h e = e.0 ∙ sym e.1
-adds (Owns n t Poisoned) (Counting g o) a d h e = absurd e
-adds (Owns n t (Came x)) (Counting g o) a d h e = absurd e
-adds NoSlot (Counting g o) a d h e = absurd e
-adds (Reads n t x) (Counting g o) a d h e = absurd e
-adds (Owns n t Asked) (Expects m g o) a d h e = absurd e
-adds (Owns n t Refused) (Expects m g o) a d h e = absurd e
-adds (Owns n t Poisoned) (Expects m g o) a d h e = absurd e
-adds (Owns n t (Came x)) (Expects m g o) a d h e = e.0
-adds NoSlot (Expects m g o) a d h e = e.0
-adds (Reads n t x) (Expects m g o) a d h e = e.0
-
-none_counting : (s : Slot) (a d h : ℕ) → Counted s NoAcks a d h → a ≡ 0
+none_counting : (s : Slot) (a d h : ℕ) → Counted s NoAcks a d h → (a ≡ 0) × (d ≡ 0)
 none_counting (Owns n t Asked) a d h e = absurd e
 none_counting (Owns n t Refused) a d h e = absurd e
 none_counting (Owns n t Poisoned) a d h e = absurd e
-none_counting (Owns n t (Came x)) a d h e = e.0
-none_counting NoSlot a d h e = e.0
-none_counting (Reads n t x) a d h e = e.0
+none_counting (Owns n t (Came x)) a d h e = e
+none_counting NoSlot a d h e = e
+none_counting (Reads n t x) a d h e = e
+
+first_counting : (s : Slot) (a d h g : ℕ) (o : List ℕ) → Counted s (Counting g o) a d h → g + a ≡ d
+first_counting (Owns n t Asked) a d h g o e = e
+first_counting (Owns n t Refused) a d h g o e = e.0 ∙ sym e.1
+first_counting (Owns n t Poisoned) a d h g o e = absurd e
+first_counting (Owns n t (Came x)) a d h g o e = absurd e
+first_counting NoSlot a d h g o e = absurd e
+first_counting (Reads n t x) a d h g o e = absurd e
+
+expecting : (s : Slot) (a d h m g : ℕ) (o : List ℕ) → Counted s (Expects m g o) a d h → (g + a ≡ m) × (g < m) × (d ≡ 0) × (h ≡ 1)
+expecting (Owns n t Asked) a d h m g o e = absurd e
+expecting (Owns n t Refused) a d h m g o e = absurd e
+expecting (Owns n t Poisoned) a d h m g o e = absurd e
+expecting (Owns n t (Came x)) a d h m g o e = e
+expecting NoSlot a d h m g o e = e
+expecting (Reads n t x) a d h m g o e = e
+
+adds : (s : Slot) (k : Acks) (a d h : ℕ) → Counted s k a d h → CountsAdd k a d
+adds s NoAcks a d h e = none_counting s a d h e
+adds s (Counting g o) a d h e = first_counting s a d h g o e
+adds s (Expects m g o) a d h e = let x = expecting s a d h m g o e in (x.0, x.1, x.2)
+
+owns : (s : Slot) (k : Acks) (a d h m g : ℕ) (o : List ℕ) → k ≡ Expects m g o → Counted s k a d h → h ≡ 1
+owns s k a d h m g o is e = (expecting s a d h m g o (subst (λ z. Counted s z a d h) is e)).3
 
 -- stale contents
 shared_by : (s : State) (v : Line) (c : ℕ) (hs : List ℕ) (d : Line) → (s.cells c).copy ≡ Held hs None d → (1 ≤ weigh (invals_at c) s.net) ⊎ (shared_off (s.cells c).copy v + read_off (s.cells c).slot v + asked (s.cells c).slot (weigh (old_datas v c) s.net) ≡ 0) → (d ≡ v) ⊎ (1 ≤ weigh (invals_at c) s.net)
@@ -325,8 +341,26 @@ epoch_entry h s p q k r f at e = epoch_by h s p r.0 f (inval_weighs s.net q k r 
 epoch_acks : (h : ℕ) (s : State) (p : Place) (q : Packet) (k : LineId) (r : ClusterId) → Facts h s p r.0 → IsOnItsWay q s.net → q.msg ≡ Inval k r → (s.cells r.0).acks ≢ NoAcks
 epoch_acks h s p q k r f at e z =
     let some = inval_weighs s.net q k r at e in
-    let none = none_counting (s.cells r.0).slot (counting r.0 s) (weigh (counts_to r.0) s.net) (holds p r.0) (subst (λ a. Counted (s.cells r.0).slot a (counting r.0 s) (weigh (counts_to r.0) s.net) (holds p r.0)) z f.counts) in
+    let none = (none_counting (s.cells r.0).slot (counting r.0 s) (weigh (counts_to r.0) s.net) (holds p r.0) (subst (λ a. Counted (s.cells r.0).slot a (counting r.0 s) (weigh (counts_to r.0) s.net) (holds p r.0)) z f.counts)).0 in
     omega arith
+
+epoch_others : (h : ℕ) (s : State) (p : Place) (q : Packet) (k : LineId) (r : ClusterId) → Facts h s p r.0 → IsOnItsWay q s.net → q.msg ≡ Inval k r → q.dst ≢ r.0
+epoch_others h s p q k r f at e z =
+    let some = weigh_at (own_invals r.0) s.net q at in
+    let none = f.epoch.others in
+    let self = one_self r.0 in
+    let same : own_invals r.0 q ≡ one r.0 r.0 = ap (own_invals_msg r.0 q.src q.dst) e ∙ ap (λ b. cond (b == r.0) (one r.0 r.0) 0) z ∙ if_same r.0 (one r.0 r.0) in
+    omega arith
+
+-- a slot reads only where there is no copy
+none_held : (c : Copy) (n : ℕ) → n ≡ 1 → n + held c ≤ 1 → c ≡ NoCopy
+none_held NoCopy n e f = refl
+none_held (Held hs o d) n e f = absurd (omega arith)
+
+no_copy : (s : Slot) (c : Copy) → slot_reads s + held c ≤ 1 → IsReading s → c ≡ NoCopy
+no_copy (Reads n t x) c e f = none_held c 1 refl e
+no_copy NoSlot c e f = absurd f
+no_copy (Owns n t x) c e f = absurd f
 
 -- what is the invariant's content is current
 current_or : (w : Config) (log : List Event) (l : ℕ) (v d : Line) (P : Type 0) → IsCurrent w log l v → (d ≡ v) ⊎ P → IsCurrent w log l d ⊎ P
@@ -340,9 +374,15 @@ facts w log l v m is i = record {
     clean_at_home = clean_home w l m i.place (λ x. (i.known x).facts);
     names = λ o e. owned_by w l m o i.place (λ x. (i.known x).facts) e;
   };
-  for_home = λ q at f. goes_home (home_of w l) (on l m.net) q (i.known 0).facts.requests.routed at f;
-  requests = λ c. let a = answer (home_of w l) (along w l m) i.place c (i.known c).facts in record { one_each = (i.known c).facts.requests.all ∙ a.0; to_read = a.1.0; to_own = a.1.1 };
-  counts = λ c. adds ((along w l m).cells c).slot ((along w l m).cells c).acks (counting c (along w l m)) (weigh (counts_to c) (on l m.net)) (holds i.place c) (i.known c).facts.counts;
+  routes = record {
+    to_home = λ q at f. routed (home_of w l) q q.msg (not_astray (home_of w l) (on l m.net) q (i.known 0).facts.requests.routed at) f;
+    from_home = λ q at f. sent_home (home_of w l) q q.msg (not_astray (home_of w l) (on l m.net) q (i.known 0).facts.requests.routed at) f;
+  };
+  requests = λ c. let a = answer (home_of w l) (along w l m) i.place c (i.known c).facts in record { one_each = (i.known c).facts.requests.all ∙ a.0; to_read = a.1.0; to_own = a.1.1; reading = no_copy ((along w l m).cells c).slot ((along w l m).cells c).copy (i.known c).facts.requests.reading };
+  counts = λ c. record {
+    adds = adds ((along w l m).cells c).slot ((along w l m).cells c).acks (counting c (along w l m)) (weigh (counts_to c) (on l m.net)) (holds i.place c) (i.known c).facts.counts;
+    owns = λ n g o is. (i.known c).facts.tokens.token ∙ owns ((along w l m).cells c).slot ((along w l m).cells c).acks (counting c (along w l m)) (weigh (counts_to c) (on l m.net)) (holds i.place c) n g o is (i.known c).facts.counts;
+  };
   stale = λ c. record {
     copy = λ hs o d e. current_or w log l v d (IsInvalidated l m c) is (stale_copy (along w l m) v c i.place hs o d e (i.known c).contents);
     slot = λ n h d e. current_or w log l v d (IsInvalidated l m c) is (stale_slot (along w l m) v c n h d e (i.known c).contents.fresh);
@@ -352,6 +392,7 @@ facts w log l v m is i = record {
   one_epoch = record {
     entry = λ q k r at e. epoch_entry (home_of w l) (along w l m) i.place q k r (i.known r.0).facts at e;
     acks = λ q k r at e. epoch_acks (home_of w l) (along w l m) i.place q k r (i.known r.0).facts at e;
+    others = λ q k r at e. epoch_others (home_of w l) (along w l m) i.place q k r (i.known r.0).facts at e;
   };
 }
 

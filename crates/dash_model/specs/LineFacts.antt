@@ -4,7 +4,7 @@ use Rattle.dash_base.specs.declared.id.ClusterId.{ClusterId}
 use Rattle.dash_base.specs.declared.id.LineId.{LineId}
 use Rattle.dash_base.specs.declared.line.Line.{Line}
 use Rattle.dash_msg.specs.declared.msg.Msg.{Msg}
-use Rattle.dash_msg.specs.declared.msg.Msg.TheVariants.{Read, ReadEx, Inval, WriteBack, SharingBack, Transfer, Data, DataEx}
+use Rattle.dash_msg.specs.declared.msg.Msg.TheVariants.{Read, ReadEx, FwdRead, FwdReadEx, Inval, WriteBack, SharingBack, Transfer, Data, DataEx, TransferAck}
 use Rattle.dash_event.specs.declared.event.Event.{Event}
 use Rattle.hart_core.specs.Access.{IsInMemory}
 use Rattle.dash_model.specs.Maps.{weigh, member}
@@ -40,9 +40,18 @@ IsForHome (SharingBack l d r) = Unit {0}
 IsForHome (Transfer l r) = Unit {0}
 IsForHome msg = ⊥
 
--- each of them is on its way to the line's home
-abbrev pub GoHome : Config → ℕ → Machine → Type 0
-GoHome w l m = (q : Packet) → IsOnItsWay q (on l m.net) → IsForHome q.msg → q.dst ≡ home_of w l
+-- a message that the home alone sends
+abbrev pub IsFromHome : Msg → Type 0
+IsFromHome (FwdRead l r) = Unit {0}
+IsFromHome (FwdReadEx l r) = Unit {0}
+IsFromHome (Inval l r) = Unit {0}
+IsFromHome (TransferAck l) = Unit {0}
+IsFromHome msg = ⊥
+
+-- what is for the home is on its way to the line's home, and what the home alone sends comes from there
+pub record IsRouted (w : Config) (l : ℕ) (m : Machine) : Type 0 where
+  pub to_home : (q : Packet) → IsOnItsWay q (on l m.net) → IsForHome q.msg → q.dst ≡ home_of w l
+  pub from_home : (q : Packet) → IsOnItsWay q (on l m.net) → IsFromHome q.msg → q.src ≡ home_of w l
 
 -- a weight, of what goes to cluster h alone
 abbrev pub to_cluster : ℕ → (Packet → ℕ) → Packet → ℕ
@@ -111,25 +120,27 @@ abbrev pub IsOwning : Slot → Type 0
 IsOwning (Owns n h phase) = Unit {0}
 IsOwning s = ⊥
 
--- each slot that waits has one message that asks for it or answers it, and there is no such message without its slot
+-- each slot that waits has one message that asks for it or answers it, and there is no such message without its slot; a slot reads only where there is no copy
 pub record OneAnswer (l : ℕ) (m : Machine) (c : ℕ) : Type 0 where
   pub one_each : weigh (reads c) (on l m.net) + weigh (datas c) (on l m.net) + weigh (wants c) (on l m.net) + weigh (brings c) (on l m.net) + weigh (naks c) (on l m.net) ≡ waiting_slots (cell_at l m c).slot
   pub to_read : 1 ≤ weigh (reads c) (on l m.net) + weigh (datas c) (on l m.net) → IsReading (cell_at l m c).slot
   pub to_own : 1 ≤ weigh (wants c) (on l m.net) + weigh (brings c) (on l m.net) → IsOwning (cell_at l m c).slot
+  pub reading : IsReading (cell_at l m c).slot → (cell_at l m c).copy ≡ NoCopy
 
 -- what counts for cluster c: invalidations and acknowledgements, and what tells the home that c has the line
 abbrev pub counting_for : ℕ → Machine → ℕ → ℕ
 counting_for l m c = weigh (invals c) (on l m.net) + weigh (acks_to c) (on l m.net) + weigh (gains c) (on l m.net)
 
--- with what came already this is the number expected; where that isn't known yet, the number that is announced on its way
+-- with what came already this is the number expected, of which fewer came; where that isn't known yet, the number that is announced on its way; and without an entry there is neither
 abbrev pub CountsAdd : Acks → ℕ → ℕ → Type 0
-CountsAdd NoAcks counting announced = Unit {0}
+CountsAdd NoAcks counting announced = (counting ≡ 0) × (announced ≡ 0)
 CountsAdd (Counting got owed) counting announced = got + counting ≡ announced
-CountsAdd (Expects expected got owed) counting announced = got + counting ≡ expected
+CountsAdd (Expects expected got owed) counting announced = (got + counting ≡ expected) × (got < expected) × (announced ≡ 0)
 
--- the counts of cluster c add up
-abbrev pub CountIsExact : ℕ → Machine → ℕ → Type 0
-CountIsExact l m c = CountsAdd (cell_at l m c).acks (counting_for l m c) (weigh (counts_to c) (on l m.net))
+-- the counts of cluster c add up, and it has or gets the token where it knows the number
+pub record CountIsExact (l : ℕ) (m : Machine) (c : ℕ) : Type 0 where
+  pub adds : CountsAdd (cell_at l m c).acks (counting_for l m c) (weigh (counts_to c) (on l m.net))
+  pub owns : (expected got : ℕ) (owed : List ℕ) → (cell_at l m c).acks ≡ Expects expected got owed → tokens_for l m c ≡ 1
 
 -- an invalidation is on its way to cluster c
 abbrev pub IsInvalidated : ℕ → Machine → ℕ → Type 0
@@ -159,16 +170,17 @@ pub data IsCovered (w : Config) (l : ℕ) (m : Machine) (c : ℕ) : Type 0 where
   BySharing : 1 ≤ weigh (shares c) (on l m.net) → IsCovered w l m c
   ByInval : IsInvalidated l m c → IsCovered w l m c
 
--- each invalidation names the cluster that the entry is Dirty of, and that cluster counts
+-- each invalidation names the cluster that the entry is Dirty of, which counts, and goes to another one
 pub record OneEpoch (w : Config) (l : ℕ) (m : Machine) : Type 0 where
   pub entry : (q : Packet) (k : LineId) (r : ClusterId) → IsOnItsWay q (on l m.net) → q.msg ≡ Inval k r → (home_at w l m).entry ≡ Dirty r.0
   pub acks : (q : Packet) (k : LineId) (r : ClusterId) → IsOnItsWay q (on l m.net) → q.msg ≡ Inval k r → (cell_at l m r.0).acks ≢ NoAcks
+  pub others : (q : Packet) (k : LineId) (r : ClusterId) → IsOnItsWay q (on l m.net) → q.msg ≡ Inval k r → q.dst ≢ r.0
 
 -- the facts of line l after a log
 pub record LineFacts (w : Config) (log : List Event) (l : ℕ) (m : Machine) : Type 0 where
   pub token : Token w log l m
   pub entry : EntryKnows w l m
-  pub for_home : GoHome w l m
+  pub routes : IsRouted w l m
   pub requests : (c : ℕ) → OneAnswer l m c
   pub counts : (c : ℕ) → CountIsExact l m c
   pub stale : (c : ℕ) → StaleIsInvalidated w log l m c

@@ -8,10 +8,10 @@ ghost use Rattle.dash_model.specs.LockFacts.{MessagesAreInRange, RunsKeepLocks};
 ghost use Rattle.dash_model.specs.MachineLaws.{EventsFixEffects, LanesAreQueues, StepsChangeOnePart, StampsRise, CommitsAreNumbered, EventsHappen, LocalRunsGrow, MergesAreRuns};
 
 /// Every run keeps the facts of each line of memory: one token, whose content is by the log the current
-/// one, in its version and in each word; an entry that knows where it is; what is for the home on its way
-/// there; one answer to each request; exact counts of acknowledgements; an invalidation on its way to
-/// whatever is stale; each cluster with a copy covered by the home; and one epoch of invalidations at a
-/// time.
+/// one, in its version and in each word; an entry that knows where it is; messages that go to the home, or
+/// come from it, as their kinds do; one answer to each request; exact counts of acknowledgements; an
+/// invalidation on its way to whatever is stale; each cluster with a copy covered by the home; and one
+/// epoch of invalidations at a time.
 pub fn runs_keep_lines()
     ensures { RunsKeepLines }
 {}
