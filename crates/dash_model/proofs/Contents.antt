@@ -1,27 +1,20 @@
--- Each row keeps contents: the token's is current, and what is older is about to be invalidated.
-use Rattle.std.proofs.Common.{◌≡◌, ◌≢◌, ◌⊎◌, ℕ, ◌+◌, ◌≤◌, ◌==◌, Bool, true, false, cond, None, Some, List, [], ◌∷◌, ◌++◌, length, refl, sym, ap, ◌∙◌, ap₂, subst, inl, inr, arith}
+-- A commit keeps contents: the token's is current, and what is older is about to be invalidated.
+use Rattle.std.proofs.Common.{◌≡◌, ◌≢◌, ◌⊎◌, ℕ, ◌+◌, ◌≤◌, ◌==◌, Bool, true, false, cond, None, Some, List, [], refl, sym, ap, ◌∙◌, ap₂, subst, inl, inr, arith}
 use Rattle.std.proofs.lemmas.Bool.Decides.{nat_tests}
 use Rattle.dash_base.specs.declared.line.Line.{Line}
-use Rattle.dash_base.specs.declared.id.LineId.{LineId}
-use Rattle.dash_base.specs.declared.id.ClusterId.{ClusterId}
-use Rattle.dash_msg.specs.declared.classes.Class.TheVariants.{Request, Reply}
 use Rattle.dash_msg.specs.declared.msg.Msg.{Msg}
-use Rattle.dash_msg.specs.declared.msg.Msg.TheVariants.{Read, ReadEx, FwdRead, FwdReadEx, Inval, WriteBack, SharingBack, Transfer, Data, DataEx, Ack, TransferAck, Nak}
-use Rattle.dash_model.specs.Maps.{weigh, without, with_member}
-use Rattle.dash_model.specs.Config.{cluster_id}
-use Rattle.dash_model.specs.Net.{Packet, parcel, head, tail, to}
-use Rattle.dash_model.specs.Cell.{Copy, NoCopy, Held, Asked, Poisoned, Came, Refused, Slot, NoSlot, Reads, Owns, NoAcks, Entry, Uncached, SharedBy, Dirty, Cell}
-use Rattle.dash_model.specs.LineEffect.{still}
-use Rattle.dash_model.specs.Acts.{AskRead, AskOwn, Again, Install, Commit, Drop, BusRead, BusOwn, evict_row}
-use Rattle.dash_model.specs.Requests.{give_read, give_own, invals_to}
+use Rattle.dash_msg.specs.declared.msg.Msg.TheVariants.{WriteBack, SharingBack, Data, DataEx}
+use Rattle.dash_model.specs.Maps.{weigh}
+use Rattle.dash_model.specs.Net.{Packet}
+use Rattle.dash_model.specs.Cell.{Copy, NoCopy, Held, Asked, Poisoned, Came, Refused, Slot, NoSlot, Reads, Owns, Entry, Uncached, SharedBy, Dirty, Cell}
+use Rattle.dash_model.specs.Acts.{Commit}
 use Rattle.dash_model.specs.OnLine.{owned, came_own, clean, one, shares, shares_msg, invals_at, datas_msg, brings_msg, gives_back_msg, datas, brings, gives_back}
-use Rattle.dash_model.proofs.LineState.{State, Where, Acts, Takes, apply, after, MayAct}
-use Rattle.dash_model.proofs.Weigh.{cut, sends, weigh-only}
+use Rattle.dash_model.proofs.LineState.{State, Where, Acts, apply, after}
+use Rattle.dash_model.proofs.Weigh.{weigh-only}
 use Rattle.dash_model.specs.Acts.{owe, commit_copy}
 use Rattle.dash_model.proofs.LineState.{IsNext}
 use Rattle.dash_model.proofs.SameLine.{same_line, same-self, same-is}
 use Rattle.dash_model.proofs.Weigh.{send-none}
-use Rattle.dash_model.proofs.Bursts.{vbursts}
 use Rattle.dash_model.proofs.Facts.{Place, AtHome, At, Back, Moving, Facts, Cover, Contents, other, at_home, returns, is_back, held, is_reading, came_read, asked, owner_off, came_off, shared_off, read_off, marked, back_any, back_any_msg, holds, old_datas_msg, old_brings_msg, old_backs_msg, old_datas, old_brings, old_backs}
 
 old_datas_msg_only : (v : Line) (x a b : ℕ) (m : Msg) → datas_msg x a b m ≡ 0 → old_datas_msg v x a b m ≡ 0
@@ -43,134 +36,8 @@ old_brings_only v x p e = old_brings_msg_only v x p.src p.dst p.msg e
 old_backs_only : (v : Line) (x : ℕ) (p : Packet) → gives_back x p ≡ 0 → old_backs v x p ≡ 0
 old_backs_only v x p e = old_backs_msg_only v x p.src p.dst p.msg e
 
-old_datas_only : (v : Line) (x : ℕ) (p : Packet) → datas x p ≡ 0 → old_datas v x p ≡ 0
+pub old_datas_only : (v : Line) (x : ℕ) (p : Packet) → datas x p ≡ 0 → old_datas v x p ≡ 0
 old_datas_only v x p e = old_datas_msg_only v x p.src p.dst p.msg e
-
-pub ask_read : (w : Where) (m : Line) (s : State) (p : Place) (i c n t x : ℕ) → MayAct (AskRead n t) (s.cells c) → Facts w.home s p x → Facts w.home s p c → Contents s p m x → Contents s p m c → Contents (after w s (Acts i c (AskRead n t))) p m x
-ask_read w m s p i c n t x may k kc v vc =
-    let none = weigh-only (datas c) (old_datas m c) (old_datas_only m c) s.net in
-    grind (arith, nat_tests, sends)
-
-pub ask_own : (w : Where) (m : Line) (s : State) (p : Place) (i c n t x : ℕ) → MayAct (AskOwn n t) (s.cells c) → Facts w.home s p x → Facts w.home s p c → Contents s p m x → Contents s p m c → Contents (after w s (Acts i c (AskOwn n t))) p m x
-ask_own w m s p i c n t x may k kc v vc = grind (arith, nat_tests, sends)
-
-pub again : (w : Where) (m : Line) (s : State) (p : Place) (i c x : ℕ) → Facts w.home s p x → Facts w.home s p c → Contents s p m x → Contents s p m c → Contents (after w s (Acts i c Again)) p m x
-again w m s p i c x k kc v vc =
-    let none = weigh-only (datas c) (old_datas m c) (old_datas_only m c) s.net in
-    grind (arith, nat_tests, sends)
-
-pub install : (w : Where) (m : Line) (s : State) (p : Place) (i c x : ℕ) → Facts w.home s p x → Facts w.home s p c → Contents s p m x → Contents s p m c → Contents (after w s (Acts i c Install)) p m x
-install w m s p i c x k kc v vc = grind (arith, nat_tests, sends)
-
-pub drop : (w : Where) (m : Line) (s : State) (p : Place) (i c t x : ℕ) → MayAct (Drop t) (s.cells c) → Facts w.home s p x → Facts w.home s p c → Contents s p m x → Contents s p m c → Contents (after w s (Acts i c (Drop t))) p m x
-drop w m s p i c t x may k kc v vc = grind (arith, nat_tests, sends)
-
-pub bus_read : (w : Where) (m : Line) (s : State) (p : Place) (i c t x : ℕ) → Facts w.home s p x → Facts w.home s p c → Contents s p m x → Contents s p m c → Contents (after w s (Acts i c (BusRead t))) p m x
-bus_read w m s p i c t x k kc v vc = grind (arith, nat_tests, sends)
-
-pub bus_own : (w : Where) (m : Line) (s : State) (p : Place) (i c t x : ℕ) → Facts w.home s p x → Facts w.home s p c → Contents s p m x → Contents s p m c → Contents (after w s (Acts i c (BusOwn t))) p m x
-bus_own w m s p i c t x k kc v vc = grind (arith, nat_tests, sends)
-
-pub data_comes : (w : Where) (m : Line) (s : State) (p : Place) (i c f u : ℕ) (l : LineId) (d : Line) (x : ℕ) → head f c Reply s.net ≡ Some (parcel f c (Data l d) u) → Facts w.home s p x → Facts w.home s p c → Contents s p m x → Contents s p m c → Contents (after w s (Takes i c f (Data l d))) p m x
-data_comes w m s p i c f u l d x first k kc v vc =
-    let less = cut f c Reply (parcel f c (Data l d) u) s.net first in
-    grind (arith, nat_tests, sends)
-
-pub ack : (w : Where) (m : Line) (s : State) (p : Place) (i c f u : ℕ) (l : LineId) (x : ℕ) → head f c Reply s.net ≡ Some (parcel f c (Ack l) u) → Facts w.home s p x → Facts w.home s p c → Contents s p m x → Contents s p m c → Contents (after w s (Takes i c f (Ack l))) p m x
-ack w m s p i c f u l x first k kc v vc =
-    let less = cut f c Reply (parcel f c (Ack l) u) s.net first in
-    grind (arith, nat_tests, sends)
-
-pub transfer_ack : (w : Where) (m : Line) (s : State) (p : Place) (i c f u : ℕ) (l : LineId) (x : ℕ) → head f c Reply s.net ≡ Some (parcel f c (TransferAck l) u) → Facts w.home s p x → Facts w.home s p c → Contents s p m x → Contents s p m c → Contents (after w s (Takes i c f (TransferAck l))) p m x
-transfer_ack w m s p i c f u l x first k kc v vc =
-    let less = cut f c Reply (parcel f c (TransferAck l) u) s.net first in
-    grind (arith, nat_tests, sends)
-
-pub inval : (w : Where) (m : Line) (s : State) (p : Place) (i c f u : ℕ) (l : LineId) (r : ClusterId) (x : ℕ) → head f c Request s.net ≡ Some (parcel f c (Inval l r) u) → Facts w.home s p x → Facts w.home s p c → Facts w.home s p r.0 → Contents s p m x → Contents s p m c → Contents s p m r.0 → Contents (after w s (Takes i c f (Inval l r))) p m x
-inval w m s p i c f u l r x first k kc kr v vc vr =
-    let less = cut f c Request (parcel f c (Inval l r) u) s.net first in
-    grind (arith, nat_tests, sends)
-
-pub evict : (w : Where) (m : Line) (s : State) (i c x : ℕ) (hs : List ℕ) (o : ℕ) (d : Line) → (s.cells c).copy ≡ Held hs (Some o) d → (s.cells c).acks ≡ NoAcks → Facts w.home s (At c) x → Facts w.home s (At c) c → Contents s (At c) m x → Contents s (At c) m c → Contents (apply i c (evict_row w.line w.home (Held hs (Some o) d) (s.cells c) s.home) s.net s) (Back c) m x
-evict w m s i c x hs o d e a k kc v vc = grind (arith, nat_tests, sends)
-
-pub fwd_read_given : (w : Where) (m : Line) (s : State) (i c f u : ℕ) (l : LineId) (r : ClusterId) (x : ℕ) (hs : List ℕ) (o : ℕ) (d : Line) → head f c Request s.net ≡ Some (parcel f c (FwdRead l r) u) → (s.cells c).copy ≡ Held hs (Some o) d → (s.cells c).acks ≡ NoAcks → Facts w.home s (At c) x → Facts w.home s (At c) c → Facts w.home s (At c) r.0 → Contents s (At c) m x → Contents s (At c) m c → Contents s (At c) m r.0 → Contents (apply i c (give_read l w.home r.0 (Held hs (Some o) d) NoAcks (s.cells c) s.home) (tail f c Request s.net) s) (Back c) m x
-fwd_read_given w m s i c f u l r x hs o d first e a k kc kr v vc vr =
-    let less = cut f c Request (parcel f c (FwdRead l r) u) s.net first in
-    grind (arith, nat_tests, sends)
-
-pub fwd_read_ex_given : (w : Where) (m : Line) (s : State) (i c f u : ℕ) (l : LineId) (r : ClusterId) (x : ℕ) (hs : List ℕ) (o : ℕ) (d : Line) → head f c Request s.net ≡ Some (parcel f c (FwdReadEx l r) u) → (s.cells c).copy ≡ Held hs (Some o) d → (s.cells c).acks ≡ NoAcks → Facts w.home s (At c) x → Facts w.home s (At c) c → Facts w.home s (At c) r.0 → Contents s (At c) m x → Contents s (At c) m c → Contents s (At c) m r.0 → Contents (apply i c (give_own l w.home r.0 (Held hs (Some o) d) NoAcks (s.cells c) s.home) (tail f c Request s.net) s) (Moving c r.0) m x
-fwd_read_ex_given w m s i c f u l r x hs o d first e a k kc kr v vc vr =
-    let less = cut f c Request (parcel f c (FwdReadEx l r) u) s.net first in
-    grind (arith, nat_tests, sends)
-
-pub fwd_read_refused : (w : Where) (m : Line) (s : State) (p : Place) (i c f u : ℕ) (l : LineId) (r : ClusterId) (x : ℕ) → head f c Request s.net ≡ Some (parcel f c (FwdRead l r) u) → Facts w.home s p x → Facts w.home s p r.0 → Contents s p m x → Contents s p m r.0 → Contents (apply i c (record { cell = s.cells c; home = s.home; sent = to r.0 (Nak l) ∷ [] }) (tail f c Request s.net) s) p m x
-fwd_read_refused w m s p i c f u l r x first k kr v vr =
-    let less = cut f c Request (parcel f c (FwdRead l r) u) s.net first in
-    grind (arith, nat_tests, sends)
-
-pub fwd_read_ex_refused : (w : Where) (m : Line) (s : State) (p : Place) (i c f u : ℕ) (l : LineId) (r : ClusterId) (x : ℕ) → head f c Request s.net ≡ Some (parcel f c (FwdReadEx l r) u) → Facts w.home s p x → Facts w.home s p r.0 → Contents s p m x → Contents s p m r.0 → Contents (apply i c (record { cell = s.cells c; home = s.home; sent = to r.0 (Nak l) ∷ [] }) (tail f c Request s.net) s) p m x
-fwd_read_ex_refused w m s p i c f u l r x first k kr v vr =
-    let less = cut f c Request (parcel f c (FwdReadEx l r) u) s.net first in
-    grind (arith, nat_tests, sends)
-
-pub nak : (w : Where) (m : Line) (s : State) (p : Place) (i c f u : ℕ) (l : LineId) (x : ℕ) → head f c Reply s.net ≡ Some (parcel f c (Nak l) u) → Facts w.home s p x → Facts w.home s p c → Contents s p m x → Contents s p m c → Contents (after w s (Takes i c f (Nak l))) p m x
-nak w m s p i c f u l x first k kc v vc =
-    let less = cut f c Reply (parcel f c (Nak l) u) s.net first in
-    grind (arith, nat_tests, sends)
-
-pub data_ex : (w : Where) (m : Line) (s : State) (p : Place) (i c f u : ℕ) (l : LineId) (d : Line) (n x : ℕ) → head f c Reply s.net ≡ Some (parcel f c (DataEx l d n) u) → Facts w.home s p x → Facts w.home s p c → Contents s p m x → Contents s p m c → Contents (after w s (Takes i c f (DataEx l d n))) p m x
-data_ex w m s p i c f u l d n x first k kc v vc =
-    let less = cut f c Reply (parcel f c (DataEx l d n) u) s.net first in
-    grind (arith, nat_tests, sends)
-
-pub read_uncached : (w : Where) (m : Line) (s : State) (i f u : ℕ) (l : LineId) (x : ℕ) → head f w.home Request s.net ≡ Some (parcel f w.home (Read l) u) → s.home.entry ≡ Uncached → Facts w.home s AtHome x → Facts w.home s AtHome f → Contents s AtHome m x → Contents s AtHome m f → Contents (apply i w.home (record { cell = s.cells w.home; home = record s.home { entry = SharedBy (f ∷ []) }; sent = to f (Data l s.home.mem) ∷ [] }) (tail f w.home Request s.net) s) AtHome m x
-read_uncached w m s i f u l x first e k kf v vf =
-    let less = cut f w.home Request (parcel f w.home (Read l) u) s.net first in
-    grind (arith, nat_tests, sends)
-
-pub read_shared : (w : Where) (m : Line) (s : State) (i f u : ℕ) (l : LineId) (x : ℕ) (cs : List ℕ) → head f w.home Request s.net ≡ Some (parcel f w.home (Read l) u) → s.home.entry ≡ SharedBy cs → Facts w.home s AtHome x → Facts w.home s AtHome f → Contents s AtHome m x → Contents s AtHome m f → Contents (apply i w.home (record { cell = s.cells w.home; home = record s.home { entry = SharedBy (with_member f cs) }; sent = to f (Data l s.home.mem) ∷ [] }) (tail f w.home Request s.net) s) AtHome m x
-read_shared w m s i f u l x cs first e k kf v vf =
-    let less = cut f w.home Request (parcel f w.home (Read l) u) s.net first in
-    grind (arith, nat_tests, sends)
-
-pub read_dirty : (w : Where) (m : Line) (s : State) (p : Place) (i f u : ℕ) (l : LineId) (x o : ℕ) → head f w.home Request s.net ≡ Some (parcel f w.home (Read l) u) → Facts w.home s p x → Contents s p m x → Contents (apply i w.home (record { cell = s.cells w.home; home = s.home; sent = to o (FwdRead l (cluster_id f)) ∷ [] }) (tail f w.home Request s.net) s) p m x
-read_dirty w m s p i f u l x o first k v =
-    let less = cut f w.home Request (parcel f w.home (Read l) u) s.net first in
-    grind (arith, nat_tests, sends)
-
-pub own_uncached : (w : Where) (m : Line) (s : State) (i f u : ℕ) (l : LineId) (x : ℕ) → head f w.home Request s.net ≡ Some (parcel f w.home (ReadEx l) u) → s.home.entry ≡ Uncached → Facts w.home s AtHome x → Facts w.home s AtHome f → Contents s AtHome m x → Contents s AtHome m f → Contents (apply i w.home (record { cell = s.cells w.home; home = record s.home { entry = Dirty f }; sent = to f (DataEx l s.home.mem 0) ∷ [] }) (tail f w.home Request s.net) s) (At f) m x
-own_uncached w m s i f u l x first e k kf v vf =
-    let less = cut f w.home Request (parcel f w.home (ReadEx l) u) s.net first in
-    grind (arith, nat_tests, sends)
-
-pub own_shared : (w : Where) (m : Line) (s : State) (i f u : ℕ) (l : LineId) (x : ℕ) (cs : List ℕ) → head f w.home Request s.net ≡ Some (parcel f w.home (ReadEx l) u) → s.home.entry ≡ SharedBy cs → Facts w.home s AtHome x → Facts w.home s AtHome f → Contents s AtHome m x → Contents s AtHome m f → Contents (apply i w.home (record { cell = s.cells w.home; home = record s.home { entry = Dirty f }; sent = invals_to l f (without f cs) ++ (to f (DataEx l s.home.mem (length (without f cs))) ∷ []) }) (tail f w.home Request s.net) s) (At f) m x
-own_shared w m s i f u l x cs first e k kf v vf =
-    let less = cut f w.home Request (parcel f w.home (ReadEx l) u) s.net first in
-    grind (arith, nat_tests, vbursts)
-
-pub own_dirty : (w : Where) (m : Line) (s : State) (p : Place) (i f u : ℕ) (l : LineId) (x o : ℕ) → head f w.home Request s.net ≡ Some (parcel f w.home (ReadEx l) u) → Facts w.home s p x → Contents s p m x → Contents (apply i w.home (record { cell = s.cells w.home; home = s.home; sent = to o (FwdReadEx l (cluster_id f)) ∷ [] }) (tail f w.home Request s.net) s) p m x
-own_dirty w m s p i f u l x o first k v =
-    let less = cut f w.home Request (parcel f w.home (ReadEx l) u) s.net first in
-    grind (arith, nat_tests, sends)
-
-pub write_back : (w : Where) (m : Line) (s : State) (i c f u : ℕ) (l : LineId) (d : Line) (x : ℕ) → head f c Request s.net ≡ Some (parcel f c (WriteBack l d) u) → Facts w.home s (Back f) x → Facts w.home s (Back f) f → Contents s (Back f) m x → Contents s (Back f) m f → Contents (apply i c (record { cell = s.cells c; home = record { mem = d; entry = Uncached }; sent = [] }) (tail f c Request s.net) s) AtHome m x
-write_back w m s i c f u l d x first k kf v vf =
-    let less = cut f c Request (parcel f c (WriteBack l d) u) s.net first in
-    grind (arith, nat_tests, sends)
-
-pub sharing_back : (w : Where) (m : Line) (s : State) (i c f u : ℕ) (l : LineId) (d : Line) (r : ClusterId) (x : ℕ) → head f c Request s.net ≡ Some (parcel f c (SharingBack l d r) u) → Facts w.home s (Back f) x → Facts w.home s (Back f) f → Contents s (Back f) m x → Contents s (Back f) m f → Contents (apply i c (record { cell = s.cells c; home = record { mem = d; entry = SharedBy (with_member f (r.0 ∷ [])) }; sent = [] }) (tail f c Request s.net) s) AtHome m x
-sharing_back w m s i c f u l d r x first k kf v vf =
-    let less = cut f c Request (parcel f c (SharingBack l d r) u) s.net first in
-    grind (arith, nat_tests, sends)
-
-pub transfer : (w : Where) (m : Line) (s : State) (i c f u : ℕ) (l : LineId) (r : ClusterId) (x : ℕ) → head f c Request s.net ≡ Some (parcel f c (Transfer l r) u) → Facts w.home s (Moving f r.0) x → Facts w.home s (Moving f r.0) f → Facts w.home s (Moving f r.0) r.0 → Contents s (Moving f r.0) m x → Contents s (Moving f r.0) m f → Contents s (Moving f r.0) m r.0 → Contents (apply i c (record { cell = s.cells c; home = record s.home { entry = Dirty r.0 }; sent = to r.0 (TransferAck l) ∷ [] }) (tail f c Request s.net) s) (At r.0) m x
-transfer w m s i c f u l r x first k kf kr v vf vr =
-    let less = cut f c Request (parcel f c (Transfer l r) u) s.net first in
-    grind (arith, nat_tests, sends)
-
-pub still_keeps : (w : Where) (m : Line) (s : State) (p : Place) (i c x : ℕ) → Facts w.home s p x → Contents s p m x → Contents (apply i c (still (s.cells c) s.home) s.net s) p m x
-still_keeps w m s p i c x k v = grind (arith, nat_tests, sends)
 
 -- the token is at a cluster, so it is nowhere else, nor at home or on its way there
 pub record OnlyAt (p : Place) (c x : ℕ) : Type 0 where

@@ -3,10 +3,10 @@ pub mod Weigh
 pub mod SameLine
 pub mod Facts
 pub mod Bursts
-pub mod Rows
-pub mod Cover
-pub mod Contents
+pub mod Members
 pub mod Steps
+pub mod Contents
+pub mod Rows
 pub mod LineSteps
 pub mod Bounds
 pub mod Along

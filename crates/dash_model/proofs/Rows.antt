@@ -1,4 +1,4 @@
--- Each row keeps the facts on requests, the token, epochs and counts.
+-- Each row keeps the facts of its line, its coverage and its contents.
 use Rattle.std.proofs.Common.{◌≡◌, ℕ, ◌≤◌, Some, List, [], ◌∷◌, ◌++◌, length, refl, ap, ap₂, arith}
 use Rattle.std.proofs.lemmas.Bool.Decides.{nat_tests}
 use Rattle.dash_base.specs.declared.line.Line.{Line}
@@ -7,7 +7,7 @@ use Rattle.dash_base.specs.declared.id.ClusterId.{ClusterId}
 use Rattle.dash_msg.specs.declared.classes.Class.TheVariants.{Request, Reply}
 use Rattle.dash_msg.specs.declared.msg.Msg.{Msg}
 use Rattle.dash_msg.specs.declared.msg.Msg.TheVariants.{Read, ReadEx, FwdRead, FwdReadEx, Inval, WriteBack, SharingBack, Transfer, Data, DataEx, Ack, TransferAck, Nak}
-use Rattle.dash_model.specs.Maps.{weigh, without}
+use Rattle.dash_model.specs.Maps.{weigh, without, with_member}
 use Rattle.dash_model.specs.Config.{cluster_id}
 use Rattle.dash_model.specs.Net.{Packet, parcel, head, tail, to}
 use Rattle.dash_model.specs.Cell.{Held, Asked, Poisoned, Came, Refused, Slot, Reads, Owns, NoAcks, Uncached, SharedBy, Dirty}
@@ -15,19 +15,14 @@ use Rattle.dash_model.specs.LineEffect.{still}
 use Rattle.dash_model.specs.Replies.{nak_slot, nak_acks}
 use Rattle.dash_model.specs.Acts.{AskRead, AskOwn, Again, Install, Commit, Drop, BusRead, BusOwn, again_row, install_row, evict_row}
 use Rattle.dash_model.specs.Requests.{give_read, give_own, invals_to}
-use Rattle.dash_model.specs.OnLine.{clean, brings_msg, counts_to_msg, brings, counts_to, naks, gives_back, leaves, gains}
+use Rattle.dash_model.specs.OnLine.{clean, datas, brings_msg, counts_to_msg, brings, counts_to, naks, gives_back, leaves, gains}
 use Rattle.dash_model.proofs.LineState.{State, Where, Acts, Takes, apply, after, MayAct}
 use Rattle.dash_model.proofs.Weigh.{cut, sends, weigh-only}
-use Rattle.dash_model.proofs.Bursts.{bursts}
-use Rattle.dash_model.proofs.Facts.{Place, AtHome, At, Back, Moving, Facts}
-
-pub ask_read : (w : Where) (s : State) (p : Place) (i c n t x : ℕ) → MayAct (AskRead n t) (s.cells c) → Facts w.home s p x → Facts w.home s p c
-    → Facts w.home (after w s (Acts i c (AskRead n t))) p x
-ask_read w s p i c n t x may k kc = grind (arith, nat_tests, sends)
-
-pub ask_own : (w : Where) (s : State) (p : Place) (i c n t x : ℕ) → MayAct (AskOwn n t) (s.cells c) → Facts w.home s p x → Facts w.home s p c
-    → Facts w.home (after w s (Acts i c (AskOwn n t))) p x
-ask_own w s p i c n t x may k kc = grind (arith, nat_tests, sends)
+use Rattle.dash_model.proofs.Bursts.{bursts, vbursts, invals_at-burst}
+use Rattle.dash_model.proofs.Members.{member-with, member-still, member_self}
+use Rattle.dash_model.proofs.Steps.{Keeps, KeepsBy, KeepsByTwo}
+use Rattle.dash_model.proofs.Contents.{old_datas_only}
+use Rattle.dash_model.proofs.Facts.{Place, AtHome, At, Back, Moving, Facts, Cover, old_datas}
 
 brings_counts_msg : (x a b : ℕ) (m : Msg) → brings_msg x a b m ≡ 0 → counts_to_msg x a b m ≡ 0
 brings_counts_msg x a b (DataEx l d n) e = grind (arith, nat_tests)
@@ -37,71 +32,289 @@ brings_counts_msg x a b _ e = refl
 pub brings_counts : (x : ℕ) (p : Packet) → brings x p ≡ 0 → counts_to x p ≡ 0
 brings_counts x p e = brings_counts_msg x p.src p.dst p.msg e
 
--- a row that does nothing
-pub still_keeps : (w : Where) (s : State) (p : Place) (i c x : ℕ) → Facts w.home s p x
-    → Facts w.home (apply i c (still (s.cells c) s.home) s.net s) p x
-still_keeps w s p i c x k = grind (arith, nat_tests, sends)
+module _ (w : Where) (s : State) (p : Place) (i c x : ℕ) where
+  -- by what the slot has
+  again_by : (b : Slot) → (s.cells c).slot ≡ b → Facts w.home s p x → Facts w.home s p c → Facts w.home (apply i c (again_row w.line w.home b (s.cells c) s.home) s.net s) p x
+  again_by (Reads n t Refused) e k kc = grind (arith, nat_tests, sends)
+  again_by (Owns n t Refused) e k kc = grind (arith, nat_tests, sends)
+  again_by _ e k kc = grind (arith, nat_tests, sends)
 
-again_by : (w : Where) (s : State) (p : Place) (i c x : ℕ) (b : Slot) → (s.cells c).slot ≡ b → Facts w.home s p x → Facts w.home s p c
-    → Facts w.home (apply i c (again_row w.line w.home b (s.cells c) s.home) s.net s) p x
-again_by w s p i c x (Reads n t Refused) e k kc = grind (arith, nat_tests, sends)
-again_by w s p i c x (Owns n t Refused) e k kc = grind (arith, nat_tests, sends)
-again_by w s p i c x _ e k kc = still_keeps w s p i c x k
+  install_by : (b : Slot) → (s.cells c).slot ≡ b → Facts w.home s p x → Facts w.home s p c → Facts w.home (apply i c (install_row b (s.cells c) s.home) s.net s) p x
+  install_by (Reads n t (Came d)) e k kc = grind (arith, nat_tests, sends)
+  install_by (Owns n t (Came d)) e k kc = grind (arith, nat_tests, sends)
+  install_by _ e k kc = grind (arith, nat_tests, sends)
 
-pub again : (w : Where) (s : State) (p : Place) (i c x : ℕ) → Facts w.home s p x → Facts w.home s p c → Facts w.home (after w s (Acts i c Again)) p x
-again w s p i c x k kc = again_by w s p i c x (s.cells c).slot refl k kc
+  nak_by : (f u : ℕ) (l : LineId) (b : Slot) → (s.cells c).slot ≡ b → head f c Reply s.net ≡ Some (parcel f c (Nak l) u) → Facts w.home s p x → Facts w.home s p c
+      → Facts w.home (apply i c (record { cell = record (s.cells c) { slot = nak_slot w.k b; acks = nak_acks w.k b (s.cells c).acks }; home = s.home; sent = [] }) (tail f c Reply s.net) s) p x
+  nak_by f u l (Reads n t Asked) e first k kc =
+      let less = cut f c Reply (parcel f c (Nak l) u) s.net first in
+      record { requests = grind (arith, nat_tests, sends); tokens = grind (arith, nat_tests, sends); epoch = grind (arith, nat_tests, sends); counts = grind (arith, nat_tests, sends) }
+  nak_by f u l (Reads n t Poisoned) e first k kc =
+      let less = cut f c Reply (parcel f c (Nak l) u) s.net first in
+      record { requests = grind (arith, nat_tests, sends); tokens = grind (arith, nat_tests, sends); epoch = grind (arith, nat_tests, sends); counts = grind (arith, nat_tests, sends) }
+  nak_by f u l (Owns n t Asked) e first k kc =
+      let less = cut f c Reply (parcel f c (Nak l) u) s.net first in
+      let none = weigh-only (brings c) (counts_to c) (brings_counts c) s.net in
+      record { requests = grind (arith, nat_tests, sends); tokens = grind (arith, nat_tests, sends); epoch = grind (arith, nat_tests, sends); counts = grind (arith, nat_tests, sends) }
+  nak_by f u l _ e first k kc =
+      let less = cut f c Reply (parcel f c (Nak l) u) s.net first in
+      let more = less (naks c) in
+      let all = kc.requests.all in
+      grind (arith, nat_tests)
 
-install_by : (w : Where) (s : State) (p : Place) (i c x : ℕ) (b : Slot) → (s.cells c).slot ≡ b → Facts w.home s p x → Facts w.home s p c
-    → Facts w.home (apply i c (install_row b (s.cells c) s.home) s.net s) p x
-install_by w s p i c x (Reads n t (Came d)) e k kc = grind (arith, nat_tests, sends)
-install_by w s p i c x (Owns n t (Came d)) e k kc = grind (arith, nat_tests, sends)
-install_by w s p i c x _ e k kc = still_keeps w s p i c x k
+-- acts of a cluster
+module _ (w : Where) (m : Line) (s : State) (p : Place) (i c : ℕ) where
+  pub idle : Keeps w.home m s p (apply i c (still (s.cells c) s.home) s.net s) p
+  idle = record {
+    facts = λ x k. grind (arith, nat_tests, sends);
+    covered = λ x k y. grind (arith, nat_tests, sends);
+    contents = λ x k v. grind (arith, nat_tests, sends);
+  }
 
-pub install : (w : Where) (s : State) (p : Place) (i c x : ℕ) → Facts w.home s p x → Facts w.home s p c
-    → Facts w.home (after w s (Acts i c Install)) p x
-install w s p i c x k kc = install_by w s p i c x (s.cells c).slot refl k kc
+  pub ask_read : (n t : ℕ) → MayAct (AskRead n t) (s.cells c) → KeepsBy w.home m s p (after w s (Acts i c (AskRead n t))) p c
+  ask_read n t may = record {
+    facts = λ x k kc. grind (arith, nat_tests, sends);
+    covered = λ x k kc y. grind (arith, nat_tests, sends);
+    contents = λ x k kc v vc. let none = weigh-only (datas c) (old_datas m c) (old_datas_only m c) s.net in grind (arith, nat_tests, sends);
+  }
 
-pub commit : (w : Where) (s : State) (p : Place) (i c t x : ℕ) (d : Line) → Facts w.home s p x → Facts w.home s p c
-    → Facts w.home (after w s (Acts i c (Commit t d))) p x
-commit w s p i c t x d k kc = grind (arith, nat_tests, sends)
+  pub ask_own : (n t : ℕ) → MayAct (AskOwn n t) (s.cells c) → KeepsBy w.home m s p (after w s (Acts i c (AskOwn n t))) p c
+  ask_own n t may = record {
+    facts = λ x k kc. grind (arith, nat_tests, sends);
+    covered = λ x k kc y. grind (arith, nat_tests, sends);
+    contents = λ x k kc v vc. grind (arith, nat_tests, sends);
+  }
 
-pub drop : (w : Where) (s : State) (p : Place) (i c t x : ℕ) → MayAct (Drop t) (s.cells c) → Facts w.home s p x → Facts w.home s p c
-    → Facts w.home (after w s (Acts i c (Drop t))) p x
-drop w s p i c t x may k kc = grind (arith, nat_tests, sends)
+  pub again : KeepsBy w.home m s p (after w s (Acts i c Again)) p c
+  again = record {
+    facts = λ x k kc. again_by w s p i c x (s.cells c).slot refl k kc;
+    covered = λ x k kc y. grind (arith, nat_tests, sends);
+    contents = λ x k kc v vc. let none = weigh-only (datas c) (old_datas m c) (old_datas_only m c) s.net in grind (arith, nat_tests, sends);
+  }
 
-pub bus_read : (w : Where) (s : State) (p : Place) (i c t x : ℕ) → Facts w.home s p x → Facts w.home s p c
-    → Facts w.home (after w s (Acts i c (BusRead t))) p x
-bus_read w s p i c t x k kc = grind (arith, nat_tests, sends)
+  pub install : KeepsBy w.home m s p (after w s (Acts i c Install)) p c
+  install = record {
+    facts = λ x k kc. install_by w s p i c x (s.cells c).slot refl k kc;
+    covered = λ x k kc y. grind (arith, nat_tests, sends);
+    contents = λ x k kc v vc. grind (arith, nat_tests, sends);
+  }
 
-pub bus_own : (w : Where) (s : State) (p : Place) (i c t x : ℕ) → Facts w.home s p x → Facts w.home s p c
-    → Facts w.home (after w s (Acts i c (BusOwn t))) p x
-bus_own w s p i c t x k kc = grind (arith, nat_tests, sends)
+  pub drop : (t : ℕ) → MayAct (Drop t) (s.cells c) → KeepsBy w.home m s p (after w s (Acts i c (Drop t))) p c
+  drop t may = record {
+    facts = λ x k kc. grind (arith, nat_tests, sends);
+    covered = λ x k kc y. grind (arith, nat_tests, sends);
+    contents = λ x k kc v vc. grind (arith, nat_tests, sends);
+  }
 
-pub data_comes : (w : Where) (s : State) (p : Place) (i c f u : ℕ) (l : LineId) (d : Line) (x : ℕ)
-    → head f c Reply s.net ≡ Some (parcel f c (Data l d) u) → Facts w.home s p x → Facts w.home s p c
-    → Facts w.home (after w s (Takes i c f (Data l d))) p x
-data_comes w s p i c f u l d x first k kc =
-    let less = cut f c Reply (parcel f c (Data l d) u) s.net first in
-    grind (arith, nat_tests, sends)
+  pub bus_read : (t : ℕ) → KeepsBy w.home m s p (after w s (Acts i c (BusRead t))) p c
+  bus_read t = record {
+    facts = λ x k kc. grind (arith, nat_tests, sends);
+    covered = λ x k kc y. grind (arith, nat_tests, sends);
+    contents = λ x k kc v vc. grind (arith, nat_tests, sends);
+  }
 
-pub ack : (w : Where) (s : State) (p : Place) (i c f u : ℕ) (l : LineId) (x : ℕ) → head f c Reply s.net ≡ Some (parcel f c (Ack l) u)
-    → Facts w.home s p x → Facts w.home s p c → Facts w.home (after w s (Takes i c f (Ack l))) p x
-ack w s p i c f u l x first k kc =
-    let less = cut f c Reply (parcel f c (Ack l) u) s.net first in
-    grind (arith, nat_tests, sends)
+  pub bus_own : (t : ℕ) → KeepsBy w.home m s p (after w s (Acts i c (BusOwn t))) p c
+  bus_own t = record {
+    facts = λ x k kc. grind (arith, nat_tests, sends);
+    covered = λ x k kc y. grind (arith, nat_tests, sends);
+    contents = λ x k kc v vc. grind (arith, nat_tests, sends);
+  }
 
-pub transfer_ack : (w : Where) (s : State) (p : Place) (i c f u : ℕ) (l : LineId) (x : ℕ) → head f c Reply s.net ≡ Some (parcel f c (TransferAck l) u)
-    → Facts w.home s p x → Facts w.home s p c → Facts w.home (after w s (Takes i c f (TransferAck l))) p x
-transfer_ack w s p i c f u l x first k kc =
-    let less = cut f c Reply (parcel f c (TransferAck l) u) s.net first in
-    grind (arith, nat_tests, sends)
+  -- of a commit, which makes another content
+  pub commit_facts : (t x : ℕ) (d : Line) → Facts w.home s p x → Facts w.home s p c → Facts w.home (after w s (Acts i c (Commit t d))) p x
+  commit_facts t x d k kc = grind (arith, nat_tests, sends)
 
-pub inval : (w : Where) (s : State) (p : Place) (i c f u : ℕ) (l : LineId) (r : ClusterId) (x : ℕ)
-    → head f c Request s.net ≡ Some (parcel f c (Inval l r) u) → Facts w.home s p x → Facts w.home s p c → Facts w.home s p r.0
-    → Facts w.home (after w s (Takes i c f (Inval l r))) p x
-inval w s p i c f u l r x first k kc kr =
-    let less = cut f c Request (parcel f c (Inval l r) u) s.net first in
-    grind (arith, nat_tests, sends)
+  pub commit_cover : (t x : ℕ) (d : Line) → Facts w.home s p x → Facts w.home s p c → Cover s p x → Cover (after w s (Acts i c (Commit t d))) p x
+  commit_cover t x d k kc y = grind (arith, nat_tests, sends)
+
+-- messages that come to a cluster
+module _ (w : Where) (m : Line) (s : State) (p : Place) (i c f u : ℕ) (l : LineId) where
+  pub data_comes : (d : Line) → head f c Reply s.net ≡ Some (parcel f c (Data l d) u) → KeepsBy w.home m s p (after w s (Takes i c f (Data l d))) p c
+  data_comes d first =
+      let less = cut f c Reply (parcel f c (Data l d) u) s.net first in
+      record {
+        facts = λ x k kc. grind (arith, nat_tests, sends);
+        covered = λ x k kc y. grind (arith, nat_tests, sends);
+        contents = λ x k kc v vc. grind (arith, nat_tests, sends);
+      }
+
+  pub ack : head f c Reply s.net ≡ Some (parcel f c (Ack l) u) → KeepsBy w.home m s p (after w s (Takes i c f (Ack l))) p c
+  ack first =
+      let less = cut f c Reply (parcel f c (Ack l) u) s.net first in
+      record {
+        facts = λ x k kc. grind (arith, nat_tests, sends);
+        covered = λ x k kc y. grind (arith, nat_tests, sends);
+        contents = λ x k kc v vc. grind (arith, nat_tests, sends);
+      }
+
+  pub transfer_ack : head f c Reply s.net ≡ Some (parcel f c (TransferAck l) u) → KeepsBy w.home m s p (after w s (Takes i c f (TransferAck l))) p c
+  transfer_ack first =
+      let less = cut f c Reply (parcel f c (TransferAck l) u) s.net first in
+      record {
+        facts = λ x k kc. grind (arith, nat_tests, sends);
+        covered = λ x k kc y. grind (arith, nat_tests, sends);
+        contents = λ x k kc v vc. grind (arith, nat_tests, sends);
+      }
+
+  pub inval : (r : ClusterId) → head f c Request s.net ≡ Some (parcel f c (Inval l r) u) → KeepsByTwo w.home m s p (after w s (Takes i c f (Inval l r))) p c r.0
+  inval r first =
+      let less = cut f c Request (parcel f c (Inval l r) u) s.net first in
+      record {
+        facts = λ x k kc kd. grind (arith, nat_tests, sends);
+        covered = λ x k kc kd y. grind (arith, nat_tests, sends);
+        contents = λ x k kc kd v vc vd. grind (arith, nat_tests, sends);
+      }
+
+  pub nak : head f c Reply s.net ≡ Some (parcel f c (Nak l) u) → KeepsBy w.home m s p (after w s (Takes i c f (Nak l))) p c
+  nak first =
+      let less = cut f c Reply (parcel f c (Nak l) u) s.net first in
+      record {
+        facts = λ x k kc. nak_by w s p i c x f u l (s.cells c).slot refl first k kc;
+        covered = λ x k kc y. grind (arith, nat_tests, sends);
+        contents = λ x k kc v vc. grind (arith, nat_tests, sends);
+      }
+
+  pub data_ex : (d : Line) (n : ℕ) → head f c Reply s.net ≡ Some (parcel f c (DataEx l d n) u) → KeepsBy w.home m s p (after w s (Takes i c f (DataEx l d n))) p c
+  data_ex d n first =
+      let less = cut f c Reply (parcel f c (DataEx l d n) u) s.net first in
+      record {
+        facts = λ x k kc. let none = weigh-only (brings c) (counts_to c) (brings_counts c) (tail f c Reply s.net) in grind (arith, nat_tests, sends);
+        covered = λ x k kc y. grind (arith, nat_tests, sends);
+        contents = λ x k kc v vc. grind (arith, nat_tests, sends);
+      }
+
+  -- a forward that is refused
+  pub fwd_read_refused : (r : ClusterId) → head f c Request s.net ≡ Some (parcel f c (FwdRead l r) u) → KeepsBy w.home m s p (apply i c (record { cell = s.cells c; home = s.home; sent = to r.0 (Nak l) ∷ [] }) (tail f c Request s.net) s) p r.0
+  fwd_read_refused r first =
+      let less = cut f c Request (parcel f c (FwdRead l r) u) s.net first in
+      record {
+        facts = λ x k kc. grind (arith, nat_tests, sends);
+        covered = λ x k kc y. grind (arith, nat_tests, sends);
+        contents = λ x k kc v vc. grind (arith, nat_tests, sends);
+      }
+
+  pub fwd_read_ex_refused : (r : ClusterId) → head f c Request s.net ≡ Some (parcel f c (FwdReadEx l r) u) → KeepsBy w.home m s p (apply i c (record { cell = s.cells c; home = s.home; sent = to r.0 (Nak l) ∷ [] }) (tail f c Request s.net) s) p r.0
+  fwd_read_ex_refused r first =
+      let less = cut f c Request (parcel f c (FwdReadEx l r) u) s.net first in
+      record {
+        facts = λ x k kc. grind (arith, nat_tests, sends);
+        covered = λ x k kc y. grind (arith, nat_tests, sends);
+        contents = λ x k kc v vc. grind (arith, nat_tests, sends);
+      }
+
+-- an owner gives the line back, gives a copy, or gives the line on
+module _ (w : Where) (m : Line) (s : State) (i c : ℕ) (hs : List ℕ) (o : ℕ) (d : Line) (owned : (s.cells c).copy ≡ Held hs (Some o) d) (clear : (s.cells c).acks ≡ NoAcks) where
+  pub evict : KeepsBy w.home m s (At c) (apply i c (evict_row w.line w.home (Held hs (Some o) d) (s.cells c) s.home) s.net s) (Back c) c
+  evict = record {
+    facts = λ x k kc. grind (arith, nat_tests, sends);
+    covered = λ x k kc y. grind (arith, nat_tests, sends);
+    contents = λ x k kc v vc. grind (arith, nat_tests, sends);
+  }
+
+  pub fwd_read_given : (f u : ℕ) (l : LineId) (r : ClusterId) → head f c Request s.net ≡ Some (parcel f c (FwdRead l r) u) → KeepsByTwo w.home m s (At c) (apply i c (give_read l w.home r.0 (Held hs (Some o) d) NoAcks (s.cells c) s.home) (tail f c Request s.net) s) (Back c) c r.0
+  fwd_read_given f u l r first =
+      let less = cut f c Request (parcel f c (FwdRead l r) u) s.net first in
+      record {
+        facts = λ x k kc kd. grind (arith, nat_tests, sends);
+        covered = λ x k kc kd y. grind (arith, nat_tests, sends);
+        contents = λ x k kc kd v vc vd. grind (arith, nat_tests, sends);
+      }
+
+  pub fwd_read_ex_given : (f u : ℕ) (l : LineId) (r : ClusterId) → head f c Request s.net ≡ Some (parcel f c (FwdReadEx l r) u) → KeepsByTwo w.home m s (At c) (apply i c (give_own l w.home r.0 (Held hs (Some o) d) NoAcks (s.cells c) s.home) (tail f c Request s.net) s) (Moving c r.0) c r.0
+  fwd_read_ex_given f u l r first =
+      let less = cut f c Request (parcel f c (FwdReadEx l r) u) s.net first in
+      record {
+        facts = λ x k kc kd. let none = weigh-only (brings r.0) (counts_to r.0) (brings_counts r.0) s.net in grind (arith, nat_tests, sends);
+        covered = λ x k kc kd y. grind (arith, nat_tests, sends);
+        contents = λ x k kc kd v vc vd. grind (arith, nat_tests, sends);
+      }
+
+-- the home serves a request, or passes it on
+module _ (w : Where) (m : Line) (s : State) (i f u : ℕ) (l : LineId) where
+  pub read_uncached : head f w.home Request s.net ≡ Some (parcel f w.home (Read l) u) → s.home.entry ≡ Uncached → KeepsBy w.home m s AtHome (apply i w.home (record { cell = s.cells w.home; home = record s.home { entry = SharedBy (f ∷ []) }; sent = to f (Data l s.home.mem) ∷ [] }) (tail f w.home Request s.net) s) AtHome f
+  unfolding with_member
+  read_uncached first e =
+      let less = cut f w.home Request (parcel f w.home (Read l) u) s.net first in
+      let here = member-with f [] in
+      record {
+        facts = λ x k kc. grind (arith, nat_tests, sends);
+        covered = λ x k kc y. grind (arith, nat_tests, sends);
+        contents = λ x k kc v vc. grind (arith, nat_tests, sends);
+      }
+
+  pub read_shared : (cs : List ℕ) → head f w.home Request s.net ≡ Some (parcel f w.home (Read l) u) → s.home.entry ≡ SharedBy cs → KeepsBy w.home m s AtHome (apply i w.home (record { cell = s.cells w.home; home = record s.home { entry = SharedBy (with_member f cs) }; sent = to f (Data l s.home.mem) ∷ [] }) (tail f w.home Request s.net) s) AtHome f
+  read_shared cs first e =
+      let less = cut f w.home Request (parcel f w.home (Read l) u) s.net first in
+      record {
+        facts = λ x k kc. grind (arith, nat_tests, sends);
+        covered = λ x k kc y. let here = member-with f cs in let there = member-still f x cs in grind (arith, nat_tests, sends);
+        contents = λ x k kc v vc. grind (arith, nat_tests, sends);
+      }
+
+  pub read_dirty : (p : Place) (o : ℕ) → head f w.home Request s.net ≡ Some (parcel f w.home (Read l) u) → Keeps w.home m s p (apply i w.home (record { cell = s.cells w.home; home = s.home; sent = to o (FwdRead l (cluster_id f)) ∷ [] }) (tail f w.home Request s.net) s) p
+  read_dirty p o first =
+      let less = cut f w.home Request (parcel f w.home (Read l) u) s.net first in
+      record {
+        facts = λ x k. grind (arith, nat_tests, sends);
+        covered = λ x k y. grind (arith, nat_tests, sends);
+        contents = λ x k v. grind (arith, nat_tests, sends);
+      }
+
+  pub own_uncached : head f w.home Request s.net ≡ Some (parcel f w.home (ReadEx l) u) → s.home.entry ≡ Uncached → KeepsBy w.home m s AtHome (apply i w.home (record { cell = s.cells w.home; home = record s.home { entry = Dirty f }; sent = to f (DataEx l s.home.mem 0) ∷ [] }) (tail f w.home Request s.net) s) (At f) f
+  own_uncached first e =
+      let less = cut f w.home Request (parcel f w.home (ReadEx l) u) s.net first in
+      record {
+        facts = λ x k kc. let none = weigh-only (brings f) (counts_to f) (brings_counts f) s.net in grind (arith, nat_tests, sends);
+        covered = λ x k kc y. grind (arith, nat_tests, sends);
+        contents = λ x k kc v vc. grind (arith, nat_tests, sends);
+      }
+
+  pub own_shared : (cs : List ℕ) → head f w.home Request s.net ≡ Some (parcel f w.home (ReadEx l) u) → s.home.entry ≡ SharedBy cs → KeepsBy w.home m s AtHome (apply i w.home (record { cell = s.cells w.home; home = record s.home { entry = Dirty f }; sent = invals_to l f (without f cs) ++ (to f (DataEx l s.home.mem (length (without f cs))) ∷ []) }) (tail f w.home Request s.net) s) (At f) f
+  own_shared cs first e =
+      let less = cut f w.home Request (parcel f w.home (ReadEx l) u) s.net first in
+      record {
+        facts = λ x k kc. let none = weigh-only (brings f) (counts_to f) (brings_counts f) s.net in record { requests = grind (arith, nat_tests, bursts); tokens = grind (arith, nat_tests, bursts); epoch = grind (arith, nat_tests, bursts); counts = grind (arith, nat_tests, bursts) };
+        covered = λ x k kc y. let told = invals_at-burst x l i w.home f cs in grind (arith, nat_tests, bursts);
+        contents = λ x k kc v vc. grind (arith, nat_tests, vbursts);
+      }
+
+  pub own_dirty : (p : Place) (o : ℕ) → head f w.home Request s.net ≡ Some (parcel f w.home (ReadEx l) u) → Keeps w.home m s p (apply i w.home (record { cell = s.cells w.home; home = s.home; sent = to o (FwdReadEx l (cluster_id f)) ∷ [] }) (tail f w.home Request s.net) s) p
+  own_dirty p o first =
+      let less = cut f w.home Request (parcel f w.home (ReadEx l) u) s.net first in
+      record {
+        facts = λ x k. grind (arith, nat_tests, sends);
+        covered = λ x k y. grind (arith, nat_tests, sends);
+        contents = λ x k v. grind (arith, nat_tests, sends);
+      }
+
+-- the line comes back, or the home learns who has it
+module _ (w : Where) (m : Line) (s : State) (i c f u : ℕ) (l : LineId) where
+  pub write_back : (d : Line) → head f c Request s.net ≡ Some (parcel f c (WriteBack l d) u) → KeepsBy w.home m s (Back f) (apply i c (record { cell = s.cells c; home = record { mem = d; entry = Uncached }; sent = [] }) (tail f c Request s.net) s) AtHome f
+  write_back d first =
+      let less = cut f c Request (parcel f c (WriteBack l d) u) s.net first in
+      record {
+        facts = λ x k kc. grind (arith, nat_tests, sends);
+        covered = λ x k kc y. grind (arith, nat_tests, sends);
+        contents = λ x k kc v vc. grind (arith, nat_tests, sends);
+      }
+
+  pub sharing_back : (d : Line) (r : ClusterId) → head f c Request s.net ≡ Some (parcel f c (SharingBack l d r) u) → KeepsBy w.home m s (Back f) (apply i c (record { cell = s.cells c; home = record { mem = d; entry = SharedBy (with_member f (r.0 ∷ [])) }; sent = [] }) (tail f c Request s.net) s) AtHome f
+  sharing_back d r first =
+      let less = cut f c Request (parcel f c (SharingBack l d r) u) s.net first in
+      record {
+        facts = λ x k kc. grind (arith, nat_tests, sends);
+        covered = λ x k kc y. let here = member-with f (r.0 ∷ []) in let there = member-still f r.0 (r.0 ∷ []) (member_self r.0) in grind (arith, nat_tests, sends);
+        contents = λ x k kc v vc. grind (arith, nat_tests, sends);
+      }
+
+  pub transfer : (r : ClusterId) → head f c Request s.net ≡ Some (parcel f c (Transfer l r) u) → KeepsByTwo w.home m s (Moving f r.0) (apply i c (record { cell = s.cells c; home = record s.home { entry = Dirty r.0 }; sent = to r.0 (TransferAck l) ∷ [] }) (tail f c Request s.net) s) (At r.0) f r.0
+  transfer r first =
+      let less = cut f c Request (parcel f c (Transfer l r) u) s.net first in
+      record {
+        facts = λ x k kc kd. grind (arith, nat_tests, sends);
+        covered = λ x k kc kd y. grind (arith, nat_tests, sends);
+        contents = λ x k kc kd v vc vd. grind (arith, nat_tests, sends);
+      }
 
 -- the place, where a cluster has an owner whose line is not pending
 place_owner_by : (w : Where) (s : State) (p : Place) (c : ℕ) (hs : List ℕ) (o : ℕ) (d : Line) → (s.cells c).copy ≡ Held hs (Some o) d
@@ -114,143 +327,6 @@ place_owner_by w s (Moving q r) c hs o d e a k = grind (arith, nat_tests)
 pub place_owner : (w : Where) (s : State) (p : Place) (c : ℕ) (hs : List ℕ) (o : ℕ) (d : Line) → (s.cells c).copy ≡ Held hs (Some o) d
     → (s.cells c).acks ≡ NoAcks → Facts w.home s p c → p ≡ At c
 place_owner = place_owner_by
-
--- the owner evicts
-pub evict : (w : Where) (s : State) (i c x : ℕ) (hs : List ℕ) (o : ℕ) (d : Line) → (s.cells c).copy ≡ Held hs (Some o) d → (s.cells c).acks ≡ NoAcks
-    → Facts w.home s (At c) x → Facts w.home s (At c) c
-    → Facts w.home (apply i c (evict_row w.line w.home (Held hs (Some o) d) (s.cells c) s.home) s.net s) (Back c) x
-evict w s i c x hs o d e a k kc = grind (arith, nat_tests, sends)
-
--- an owner gives a copy, and a line
-pub fwd_read_given : (w : Where) (s : State) (i c f u : ℕ) (l : LineId) (r : ClusterId) (x : ℕ) (hs : List ℕ) (o : ℕ) (d : Line)
-    → head f c Request s.net ≡ Some (parcel f c (FwdRead l r) u) → (s.cells c).copy ≡ Held hs (Some o) d → (s.cells c).acks ≡ NoAcks
-    → Facts w.home s (At c) x → Facts w.home s (At c) c → Facts w.home s (At c) r.0
-    → Facts w.home (apply i c (give_read l w.home r.0 (Held hs (Some o) d) NoAcks (s.cells c) s.home) (tail f c Request s.net) s) (Back c) x
-fwd_read_given w s i c f u l r x hs o d first e a k kc kr =
-    let less = cut f c Request (parcel f c (FwdRead l r) u) s.net first in
-    grind (arith, nat_tests, sends)
-
-pub fwd_read_ex_given : (w : Where) (s : State) (i c f u : ℕ) (l : LineId) (r : ClusterId) (x : ℕ) (hs : List ℕ) (o : ℕ) (d : Line)
-    → head f c Request s.net ≡ Some (parcel f c (FwdReadEx l r) u) → (s.cells c).copy ≡ Held hs (Some o) d → (s.cells c).acks ≡ NoAcks
-    → Facts w.home s (At c) x → Facts w.home s (At c) c → Facts w.home s (At c) r.0
-    → Facts w.home (apply i c (give_own l w.home r.0 (Held hs (Some o) d) NoAcks (s.cells c) s.home) (tail f c Request s.net) s) (Moving c r.0) x
-fwd_read_ex_given w s i c f u l r x hs o d first e a k kc kr =
-    let less = cut f c Request (parcel f c (FwdReadEx l r) u) s.net first in
-    let none = weigh-only (brings r.0) (counts_to r.0) (brings_counts r.0) s.net in
-    grind (arith, nat_tests, sends)
-
--- a forward that is refused
-pub fwd_read_refused : (w : Where) (s : State) (p : Place) (i c f u : ℕ) (l : LineId) (r : ClusterId) (x : ℕ)
-    → head f c Request s.net ≡ Some (parcel f c (FwdRead l r) u) → Facts w.home s p x → Facts w.home s p r.0
-    → Facts w.home (apply i c (record { cell = s.cells c; home = s.home; sent = to r.0 (Nak l) ∷ [] }) (tail f c Request s.net) s) p x
-fwd_read_refused w s p i c f u l r x first k kr =
-    let less = cut f c Request (parcel f c (FwdRead l r) u) s.net first in
-    grind (arith, nat_tests, sends)
-
-pub fwd_read_ex_refused : (w : Where) (s : State) (p : Place) (i c f u : ℕ) (l : LineId) (r : ClusterId) (x : ℕ)
-    → head f c Request s.net ≡ Some (parcel f c (FwdReadEx l r) u) → Facts w.home s p x → Facts w.home s p r.0
-    → Facts w.home (apply i c (record { cell = s.cells c; home = s.home; sent = to r.0 (Nak l) ∷ [] }) (tail f c Request s.net) s) p x
-fwd_read_ex_refused w s p i c f u l r x first k kr =
-    let less = cut f c Request (parcel f c (FwdReadEx l r) u) s.net first in
-    grind (arith, nat_tests, sends)
-
-nak_by : (w : Where) (s : State) (p : Place) (i c f u : ℕ) (l : LineId) (x : ℕ) (b : Slot) → (s.cells c).slot ≡ b
-    → head f c Reply s.net ≡ Some (parcel f c (Nak l) u) → Facts w.home s p x → Facts w.home s p c
-    → Facts w.home (apply i c (record { cell = record (s.cells c) { slot = nak_slot w.k b; acks = nak_acks w.k b (s.cells c).acks }; home = s.home; sent = [] }) (tail f c Reply s.net) s) p x
-nak_by w s p i c f u l x (Reads n t Asked) e first k kc =
-    let less = cut f c Reply (parcel f c (Nak l) u) s.net first in
-    record { requests = grind (arith, nat_tests, sends); tokens = grind (arith, nat_tests, sends); epoch = grind (arith, nat_tests, sends); counts = grind (arith, nat_tests, sends) }
-nak_by w s p i c f u l x (Reads n t Poisoned) e first k kc =
-    let less = cut f c Reply (parcel f c (Nak l) u) s.net first in
-    record { requests = grind (arith, nat_tests, sends); tokens = grind (arith, nat_tests, sends); epoch = grind (arith, nat_tests, sends); counts = grind (arith, nat_tests, sends) }
-nak_by w s p i c f u l x (Owns n t Asked) e first k kc =
-    let less = cut f c Reply (parcel f c (Nak l) u) s.net first in
-    let none = weigh-only (brings c) (counts_to c) (brings_counts c) s.net in
-    record { requests = grind (arith, nat_tests, sends); tokens = grind (arith, nat_tests, sends); epoch = grind (arith, nat_tests, sends); counts = grind (arith, nat_tests, sends) }
-nak_by w s p i c f u l x _ e first k kc =
-    let less = cut f c Reply (parcel f c (Nak l) u) s.net first in
-    let more = less (naks c) in
-    let all = kc.requests.all in
-    grind (arith, nat_tests)
-
-pub nak : (w : Where) (s : State) (p : Place) (i c f u : ℕ) (l : LineId) (x : ℕ) → head f c Reply s.net ≡ Some (parcel f c (Nak l) u)
-    → Facts w.home s p x → Facts w.home s p c → Facts w.home (after w s (Takes i c f (Nak l))) p x
-nak w s p i c f u l x first k kc = nak_by w s p i c f u l x (s.cells c).slot refl first k kc
-
-pub data_ex : (w : Where) (s : State) (p : Place) (i c f u : ℕ) (l : LineId) (d : Line) (n x : ℕ)
-    → head f c Reply s.net ≡ Some (parcel f c (DataEx l d n) u) → Facts w.home s p x → Facts w.home s p c
-    → Facts w.home (after w s (Takes i c f (DataEx l d n))) p x
-data_ex w s p i c f u l d n x first k kc =
-    let less = cut f c Reply (parcel f c (DataEx l d n) u) s.net first in
-    let none = weigh-only (brings c) (counts_to c) (brings_counts c) (tail f c Reply s.net) in
-    grind (arith, nat_tests, sends)
-
--- the home serves a Read, or passes it on
-pub read_clean : (w : Where) (s : State) (p : Place) (i f u : ℕ) (l : LineId) (x : ℕ) (cs : List ℕ)
-    → head f w.home Request s.net ≡ Some (parcel f w.home (Read l) u) → clean s.home.entry ≡ 1 → Facts w.home s p x → Facts w.home s p f
-    → Facts w.home (apply i w.home (record { cell = s.cells w.home; home = record s.home { entry = SharedBy cs }; sent = to f (Data l s.home.mem) ∷ [] }) (tail f w.home Request s.net) s) p x
-read_clean w s p i f u l x cs first e k kf =
-    let less = cut f w.home Request (parcel f w.home (Read l) u) s.net first in
-    grind (arith, nat_tests, sends)
-
-pub read_dirty : (w : Where) (s : State) (p : Place) (i f u : ℕ) (l : LineId) (x o : ℕ)
-    → head f w.home Request s.net ≡ Some (parcel f w.home (Read l) u) → Facts w.home s p x
-    → Facts w.home (apply i w.home (record { cell = s.cells w.home; home = s.home; sent = to o (FwdRead l (cluster_id f)) ∷ [] }) (tail f w.home Request s.net) s) p x
-read_dirty w s p i f u l x o first k =
-    let less = cut f w.home Request (parcel f w.home (Read l) u) s.net first in
-    grind (arith, nat_tests, sends)
-
-pub own_uncached : (w : Where) (s : State) (i f u : ℕ) (l : LineId) (x : ℕ) → head f w.home Request s.net ≡ Some (parcel f w.home (ReadEx l) u)
-    → s.home.entry ≡ Uncached → Facts w.home s AtHome x → Facts w.home s AtHome f
-    → Facts w.home (apply i w.home (record { cell = s.cells w.home; home = record s.home { entry = Dirty f }; sent = to f (DataEx l s.home.mem 0) ∷ [] }) (tail f w.home Request s.net) s) (At f) x
-own_uncached w s i f u l x first e k kf =
-    let less = cut f w.home Request (parcel f w.home (ReadEx l) u) s.net first in
-    let none = weigh-only (brings f) (counts_to f) (brings_counts f) s.net in
-    grind (arith, nat_tests, sends)
-
-pub own_shared : (w : Where) (s : State) (i f u : ℕ) (l : LineId) (x : ℕ) (cs : List ℕ)
-    → head f w.home Request s.net ≡ Some (parcel f w.home (ReadEx l) u) → s.home.entry ≡ SharedBy cs → Facts w.home s AtHome x
-    → Facts w.home s AtHome f
-    → Facts w.home (apply i w.home (record { cell = s.cells w.home; home = record s.home { entry = Dirty f }; sent = invals_to l f (without f cs) ++ (to f (DataEx l s.home.mem (length (without f cs))) ∷ []) }) (tail f w.home Request s.net) s) (At f) x
-own_shared w s i f u l x cs first e k kf =
-    let less = cut f w.home Request (parcel f w.home (ReadEx l) u) s.net first in
-    let none = weigh-only (brings f) (counts_to f) (brings_counts f) s.net in
-    record {
-      requests = grind (arith, nat_tests, bursts);
-      tokens = grind (arith, nat_tests, bursts);
-      epoch = grind (arith, nat_tests, bursts);
-      counts = grind (arith, nat_tests, bursts);
-    }
-
-pub own_dirty : (w : Where) (s : State) (p : Place) (i f u : ℕ) (l : LineId) (x o : ℕ)
-    → head f w.home Request s.net ≡ Some (parcel f w.home (ReadEx l) u) → Facts w.home s p x
-    → Facts w.home (apply i w.home (record { cell = s.cells w.home; home = s.home; sent = to o (FwdReadEx l (cluster_id f)) ∷ [] }) (tail f w.home Request s.net) s) p x
-own_dirty w s p i f u l x o first k =
-    let less = cut f w.home Request (parcel f w.home (ReadEx l) u) s.net first in
-    grind (arith, nat_tests, sends)
-
--- the home takes the line back, or learns who has it
-pub write_back : (w : Where) (s : State) (i c f u : ℕ) (l : LineId) (d : Line) (x : ℕ) → head f c Request s.net ≡ Some (parcel f c (WriteBack l d) u)
-    → Facts w.home s (Back f) x → Facts w.home s (Back f) f
-    → Facts w.home (apply i c (record { cell = s.cells c; home = record { mem = d; entry = Uncached }; sent = [] }) (tail f c Request s.net) s) AtHome x
-write_back w s i c f u l d x first k kf =
-    let less = cut f c Request (parcel f c (WriteBack l d) u) s.net first in
-    grind (arith, nat_tests, sends)
-
-pub sharing_back : (w : Where) (s : State) (i c f u : ℕ) (l : LineId) (d : Line) (r : ClusterId) (x : ℕ) (cs : List ℕ)
-    → head f c Request s.net ≡ Some (parcel f c (SharingBack l d r) u) → Facts w.home s (Back f) x → Facts w.home s (Back f) f
-    → Facts w.home (apply i c (record { cell = s.cells c; home = record { mem = d; entry = SharedBy cs }; sent = [] }) (tail f c Request s.net) s) AtHome x
-sharing_back w s i c f u l d r x cs first k kf =
-    let less = cut f c Request (parcel f c (SharingBack l d r) u) s.net first in
-    grind (arith, nat_tests, sends)
-
-pub transfer : (w : Where) (s : State) (i c f u : ℕ) (l : LineId) (r : ClusterId) (x : ℕ)
-    → head f c Request s.net ≡ Some (parcel f c (Transfer l r) u) → Facts w.home s (Moving f r.0) x → Facts w.home s (Moving f r.0) f
-    → Facts w.home s (Moving f r.0) r.0
-    → Facts w.home (apply i c (record { cell = s.cells c; home = record s.home { entry = Dirty r.0 }; sent = to r.0 (TransferAck l) ∷ [] }) (tail f c Request s.net) s) (At r.0) x
-transfer w s i c f u l r x first k kf kr =
-    let less = cut f c Request (parcel f c (Transfer l r) u) s.net first in
-    grind (arith, nat_tests, sends)
 
 -- where those three messages come, the place is theirs
 pub back_of : (w : Where) (s : State) (p : Place) (f : ℕ) → 1 ≤ weigh (gives_back f) s.net → Facts w.home s p f → p ≡ Back f
