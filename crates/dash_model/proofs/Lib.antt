@@ -20,6 +20,7 @@ pub mod Stores
 pub mod Told
 pub mod Budgets
 pub mod Reached
+pub mod OneToken
 pub mod LineFacts
 pub mod BufferFacts
 pub mod Lanes

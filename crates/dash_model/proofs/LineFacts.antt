@@ -5,132 +5,23 @@ use Rattle.dash_base.specs.declared.id.ClusterId.{ClusterId}
 use Rattle.dash_base.specs.declared.id.LineId.{LineId}
 use Rattle.dash_base.specs.declared.line.Line.{Line}
 use Rattle.dash_msg.specs.declared.msg.Msg.{Msg}
-use Rattle.dash_msg.specs.declared.msg.Msg.TheVariants.{Read, ReadEx, FwdRead, FwdReadEx, TransferAck, Inval, WriteBack, SharingBack, Transfer, Data, DataEx}
+use Rattle.dash_msg.specs.declared.msg.Msg.TheVariants.{Inval, WriteBack, SharingBack, Transfer, Data, DataEx}
 use Rattle.dash_event.specs.declared.event.Event.{Event}
 use Rattle.dash_model.specs.Maps.{weigh, member}
 use Rattle.dash_model.specs.Config.{Config, lines, home_of}
 use Rattle.dash_model.specs.Net.{Packet}
-use Rattle.dash_model.specs.OnLine.{one, on, clean, reads, datas, wants, brings, gives_back, leaves, gains, invals, invals_at, counts_to, shares, passes, gives_back_msg, gains_msg, leaves_msg, passes_msg, invals_msg}
+use Rattle.dash_model.specs.OnLine.{one, on, clean, reads, datas, wants, brings, gives_back, leaves, gains, invals, invals_at, counts_to, shares, passes, gains_msg, leaves_msg, passes_msg, invals_msg}
 use Rattle.dash_model.specs.Cell.{Copy, NoCopy, Held, Asked, Poisoned, Came, Refused, Slot, NoSlot, Reads, Owns, Acks, NoAcks, Counting, Expects, Entry, Uncached, SharedBy, Dirty}
 use Rattle.dash_model.specs.Machine.{Machine, Reaches}
-use Rattle.dash_model.specs.LineFacts.{IsOnItsWay, IsForHome, IsFromHome, to_cluster, IsCurrent, Holder, InMemory, OwnerAt, SlotAt, ComingTo, ReturningFrom, tokens_at, Token, tokens_for, IsOwnedBy, ThereOrComing, Returning, Passed, waiting_slots, IsReading, IsOwning, CountsAdd, HasThing, ByCopy, BySlot, ByData, IsInvalidated, IsMarked, IsCovered, ByToken, ByMark, BySharing, ByInval, LineFacts}
+use Rattle.dash_model.specs.LineFacts.{IsOnItsWay, IsCurrent, InMemory, tokens_at, Token, tokens_for, IsOwnedBy, ThereOrComing, Returning, Passed, waiting_slots, IsReading, IsOwning, CountsAdd, HasThing, ByCopy, BySlot, ByData, IsInvalidated, IsMarked, IsCovered, ByToken, ByMark, BySharing, ByInval, LineFacts}
 use Rattle.dash_model.proofs.LineState.{State}
-use Rattle.dash_model.proofs.Facts.{Place, AtHome, At, Back, Moving, Facts, Cover, Contents, Counted, counting, misrouted, misrouted_msg, own_invals, own_invals_msg, is_reading as slot_reads, holds, returns, at_home, dirty_of, owner_in, marked, things, held, came_read, asked, other, owner_off, came_off, shared_off, read_off, old_brings, old_backs, old_datas, old_brings_msg, old_backs_msg, old_datas_msg, waits_read, waits_own}
+use Rattle.dash_model.proofs.Facts.{Place, AtHome, At, Back, Moving, Facts, Cover, Contents, Counted, counting, own_invals, own_invals_msg, is_reading as slot_reads, holds, at_home, dirty_of, owner_in, marked, things, held, came_read, asked, other, owner_off, came_off, shared_off, read_off, old_brings, old_backs, old_datas, old_brings_msg, old_backs_msg, old_datas_msg, waits_read, waits_own}
 use Rattle.dash_model.proofs.Contents.{off_not, owner_current}
 use Rattle.dash_model.proofs.Steps.{Invariant}
+use Rattle.dash_model.proofs.OneToken.{weigh_at, routed, sent_home, not_astray, all_home, pass_home, returning, one_self, one_not, one_token}
 use Rattle.dash_model.proofs.Along.{along, same_or_not}
 use Rattle.dash_model.proofs.Told.{current}
 use Rattle.dash_model.proofs.Reached.{each_reached}
-
--- a message that is on its way weighs
-weigh_at : (w : Packet → ℕ) (net : List Packet) (q : Packet) → IsOnItsWay q net → w q ≤ weigh w net
-unfolding weigh
-weigh_at w [] q i = absurd i
-weigh_at w (p ∷ ps) q (inl e) = let f : w q ≡ w p = ap w e in omega arith
-weigh_at w (p ∷ ps) q (inr i) = let ih = weigh_at w ps q i in omega arith
-
--- where the token is
-at_one : (a b c : ℕ) → a + b + c ≡ 1 → ((a ≡ 1) × (b ≡ 0) × (c ≡ 0)) ⊎ (((a ≡ 0) × (b ≡ 1) × (c ≡ 0)) ⊎ ((a ≡ 0) × (b ≡ 0) × (c ≡ 1)))
-at_one a b c e = grind arith
-
-pub record OneToken (w : Config) (l : ℕ) (m : Machine) : Type 0 where
-  pub holder : Holder
-  pub there : tokens_at w l m holder ≡ 1
-  pub alone : (g : Holder) → g ≢ holder → tokens_at w l m g ≡ 0
-
-one_self : (o : ℕ) → one o o ≡ 1
-one_self o = grind (arith, nat_tests)
-
-one_not : (o c : ℕ) → c ≢ o → one o c ≡ 0
-one_not o c n = grind (arith, nat_tests)
-
--- the other places, where one is the token's
-owner_alone : (w : Config) (l : ℕ) (m : Machine) (o : ℕ) → ((c : ℕ) → tokens_for l m c ≡ one o c) → tokens_at w l m InMemory ≡ 0 → ((c : ℕ) → tokens_at w l m (ReturningFrom c) ≡ 0) → tokens_at w l m (SlotAt o) ≡ 0 → tokens_at w l m (ComingTo o) ≡ 0 → (g : Holder) → g ≢ OwnerAt o → tokens_at w l m g ≡ 0
-owner_alone w l m o f z r a b InMemory n = z
-owner_alone w l m o f z r a b (OwnerAt c) n = let e = f c ∙ one_not o c (λ e. n (ap OwnerAt e)) in omega arith
-owner_alone w l m o f z r a b (SlotAt c) n = elim (same_or_not c o) [ inl e ↦ ap (λ c. tokens_at w l m (SlotAt c)) e ∙ a | inr d ↦ (let e = f c ∙ one_not o c d in omega arith) ]
-owner_alone w l m o f z r a b (ComingTo c) n = elim (same_or_not c o) [ inl e ↦ ap (λ c. tokens_at w l m (ComingTo c)) e ∙ b | inr d ↦ (let e = f c ∙ one_not o c d in omega arith) ]
-owner_alone w l m o f z r a b (ReturningFrom c) n = r c
-
-slot_alone : (w : Config) (l : ℕ) (m : Machine) (o : ℕ) → ((c : ℕ) → tokens_for l m c ≡ one o c) → tokens_at w l m InMemory ≡ 0 → ((c : ℕ) → tokens_at w l m (ReturningFrom c) ≡ 0) → tokens_at w l m (OwnerAt o) ≡ 0 → tokens_at w l m (ComingTo o) ≡ 0 → (g : Holder) → g ≢ SlotAt o → tokens_at w l m g ≡ 0
-slot_alone w l m o f z r a b InMemory n = z
-slot_alone w l m o f z r a b (OwnerAt c) n = elim (same_or_not c o) [ inl e ↦ ap (λ c. tokens_at w l m (OwnerAt c)) e ∙ a | inr d ↦ (let e = f c ∙ one_not o c d in omega arith) ]
-slot_alone w l m o f z r a b (SlotAt c) n = let e = f c ∙ one_not o c (λ e. n (ap SlotAt e)) in omega arith
-slot_alone w l m o f z r a b (ComingTo c) n = elim (same_or_not c o) [ inl e ↦ ap (λ c. tokens_at w l m (ComingTo c)) e ∙ b | inr d ↦ (let e = f c ∙ one_not o c d in omega arith) ]
-slot_alone w l m o f z r a b (ReturningFrom c) n = r c
-
-coming_alone : (w : Config) (l : ℕ) (m : Machine) (o : ℕ) → ((c : ℕ) → tokens_for l m c ≡ one o c) → tokens_at w l m InMemory ≡ 0 → ((c : ℕ) → tokens_at w l m (ReturningFrom c) ≡ 0) → tokens_at w l m (OwnerAt o) ≡ 0 → tokens_at w l m (SlotAt o) ≡ 0 → (g : Holder) → g ≢ ComingTo o → tokens_at w l m g ≡ 0
-coming_alone w l m o f z r a b InMemory n = z
-coming_alone w l m o f z r a b (OwnerAt c) n = elim (same_or_not c o) [ inl e ↦ ap (λ c. tokens_at w l m (OwnerAt c)) e ∙ a | inr d ↦ (let e = f c ∙ one_not o c d in omega arith) ]
-coming_alone w l m o f z r a b (SlotAt c) n = elim (same_or_not c o) [ inl e ↦ ap (λ c. tokens_at w l m (SlotAt c)) e ∙ b | inr d ↦ (let e = f c ∙ one_not o c d in omega arith) ]
-coming_alone w l m o f z r a b (ComingTo c) n = let e = f c ∙ one_not o c (λ e. n (ap ComingTo e)) in omega arith
-coming_alone w l m o f z r a b (ReturningFrom c) n = r c
-
--- the token is for cluster o
-for_cluster : (w : Config) (l : ℕ) (m : Machine) (o : ℕ) → ((c : ℕ) → tokens_for l m c ≡ one o c) → tokens_at w l m InMemory ≡ 0 → ((c : ℕ) → tokens_at w l m (ReturningFrom c) ≡ 0) → ((tokens_at w l m (OwnerAt o) ≡ 1) × (tokens_at w l m (SlotAt o) ≡ 0) × (tokens_at w l m (ComingTo o) ≡ 0)) ⊎ (((tokens_at w l m (OwnerAt o) ≡ 0) × (tokens_at w l m (SlotAt o) ≡ 1) × (tokens_at w l m (ComingTo o) ≡ 0)) ⊎ ((tokens_at w l m (OwnerAt o) ≡ 0) × (tokens_at w l m (SlotAt o) ≡ 0) × (tokens_at w l m (ComingTo o) ≡ 1))) → OneToken w l m
-for_cluster w l m o f z r (inl e) = record { holder = OwnerAt o; there = e.0; alone = owner_alone w l m o f z r e.1 e.2 }
-for_cluster w l m o f z r (inr (inl e)) = record { holder = SlotAt o; there = e.1; alone = slot_alone w l m o f z r e.0 e.2 }
-for_cluster w l m o f z r (inr (inr e)) = record { holder = ComingTo o; there = e.2; alone = coming_alone w l m o f z r e.0 e.1 }
-
-home_alone : (w : Config) (l : ℕ) (m : Machine) → ((c : ℕ) → tokens_for l m c ≡ 0) → ((c : ℕ) → tokens_at w l m (ReturningFrom c) ≡ 0) → (g : Holder) → g ≢ InMemory → tokens_at w l m g ≡ 0
-home_alone w l m f r InMemory n = absurd (n refl)
-home_alone w l m f r (OwnerAt c) n = let e = f c in omega arith
-home_alone w l m f r (SlotAt c) n = let e = f c in omega arith
-home_alone w l m f r (ComingTo c) n = let e = f c in omega arith
-home_alone w l m f r (ReturningFrom c) n = r c
-
-back_alone : (w : Config) (l : ℕ) (m : Machine) (o : ℕ) → ((c : ℕ) → tokens_for l m c ≡ 0) → tokens_at w l m InMemory ≡ 0 → ((c : ℕ) → tokens_at w l m (ReturningFrom c) ≡ one o c) → (g : Holder) → g ≢ ReturningFrom o → tokens_at w l m g ≡ 0
-back_alone w l m o f z r InMemory n = z
-back_alone w l m o f z r (OwnerAt c) n = let e = f c in omega arith
-back_alone w l m o f z r (SlotAt c) n = let e = f c in omega arith
-back_alone w l m o f z r (ComingTo c) n = let e = f c in omega arith
-back_alone w l m o f z r (ReturningFrom c) n = r c ∙ one_not o c (λ e. n (ap ReturningFrom e))
-
--- what is for the home goes there, and what it alone sends comes from there
-routed : (h : ℕ) (q : Packet) (m : Msg) → misrouted_msg h q.src q.dst m ≡ 0 → IsForHome m → q.dst ≡ h
-routed h q (Read l) e f = grind (arith, nat_tests)
-routed h q (ReadEx l) e f = grind (arith, nat_tests)
-routed h q (WriteBack l d) e f = grind (arith, nat_tests)
-routed h q (SharingBack l d r) e f = grind (arith, nat_tests)
-routed h q (Transfer l r) e f = grind (arith, nat_tests)
-routed h q _ e f = absurd f
-
-sent_home : (h : ℕ) (q : Packet) (m : Msg) → misrouted_msg h q.src q.dst m ≡ 0 → IsFromHome m → q.src ≡ h
-sent_home h q (FwdRead l r) e f = grind (arith, nat_tests)
-sent_home h q (FwdReadEx l r) e f = grind (arith, nat_tests)
-sent_home h q (Inval l r) e f = grind (arith, nat_tests)
-sent_home h q (TransferAck l) e f = grind (arith, nat_tests)
-sent_home h q _ e f = absurd f
-
-not_astray : (h : ℕ) (net : List Packet) (q : Packet) → weigh (misrouted h) net ≡ 0 → IsOnItsWay q net → misrouted h q ≡ 0
-not_astray h net q none at = let some = weigh_at (misrouted h) net q at in omega arith
-
--- so what weighs of it weighs the same to there
-all_home : (h : ℕ) (weight : Packet → ℕ) → ((q : Packet) → misrouted h q ≡ 0 → to_cluster h weight q ≡ weight q) → (net : List Packet) → weigh (misrouted h) net ≡ 0 → weigh (to_cluster h weight) net ≡ weigh weight net
-unfolding weigh
-all_home h weight f [] none = refl
-all_home h weight f (q ∷ qs) none =
-    let here = f q (omega arith) in
-    let there = all_home h weight f qs (omega arith) in
-    omega arith
-
-back_home : (h c a b : ℕ) (m : Msg) → misrouted_msg h a b m ≡ 0 → cond (b == h) (gives_back_msg c a b m) 0 ≡ gives_back_msg c a b m
-back_home h c a b (WriteBack l d) e = grind (arith, nat_tests)
-back_home h c a b (SharingBack l d r) e = grind (arith, nat_tests)
-back_home h c a b _ e = grind arith
-
-pass_home : (h o r a b : ℕ) (m : Msg) → misrouted_msg h a b m ≡ 0 → cond (b == h) (passes_msg o r a b m) 0 ≡ passes_msg o r a b m
-pass_home h o r a b (Transfer l x) e = grind (arith, nat_tests)
-pass_home h o r a b _ e = grind arith
-
-returning : (w : Config) (l : ℕ) (m : Machine) (p : Place) → ((x : ℕ) → Facts (home_of w l) (along w l m) p x) → (c : ℕ) → tokens_at w l m (ReturningFrom c) ≡ returns p c
-returning w l m p k c = all_home (home_of w l) (gives_back c) (λ q e. back_home (home_of w l) c q.src q.dst q.msg e) (on l m.net) (k 0).requests.routed ∙ (k c).tokens.back
-
-one_token : (w : Config) (l : ℕ) (m : Machine) (p : Place) → ((x : ℕ) → Facts (home_of w l) (along w l m) p x) → OneToken w l m
-one_token w l m AtHome k = record { holder = InMemory; there = (k 0).tokens.home; alone = home_alone w l m (λ c. (k c).tokens.token) (returning w l m AtHome k) }
-one_token w l m (At o) k = for_cluster w l m o (λ c. (k c).tokens.token) (k 0).tokens.home (returning w l m (At o) k) (at_one (tokens_at w l m (OwnerAt o)) (tokens_at w l m (SlotAt o)) (tokens_at w l m (ComingTo o)) ((k o).tokens.token ∙ one_self o))
-one_token w l m (Back o) k = record { holder = ReturningFrom o; there = returning w l m (Back o) k o ∙ one_self o; alone = back_alone w l m o (λ c. (k c).tokens.token) (k 0).tokens.home (returning w l m (Back o) k) }
-one_token w l m (Moving q o) k = for_cluster w l m o (λ c. (k c).tokens.token) (k 0).tokens.home (returning w l m (Moving q o) k) (at_one (tokens_at w l m (OwnerAt o)) (tokens_at w l m (SlotAt o)) (tokens_at w l m (ComingTo o)) ((k o).tokens.token ∙ one_self o))
 
 -- contents
 memory_is : (p : Place) (v d : Line) (a : ℕ) → a ≡ at_home p → (at_home p ≡ 0) ⊎ (other v d ≡ 0) → a ≡ 1 → d ≡ v
