@@ -48,3 +48,11 @@ pub mod Retired
 pub mod Asking
 pub mod Serving
 pub mod LockCounts
+pub mod TableCode
+pub mod TableCells
+pub mod TableHarts
+pub mod TableAccesses
+pub mod TableHome
+pub mod TableMessages
+pub mod TableLines
+pub mod TableLocks

@@ -36,3 +36,11 @@ pub mod LineFacts
 pub mod BufferFacts
 pub mod MachineLaws
 pub mod Example
+pub mod TableParts
+pub mod TableCode
+pub mod TableHarts
+pub mod TableAccesses
+pub mod TableLines
+pub mod TableHome
+pub mod TableMessages
+pub mod TableLocks

@@ -6,6 +6,12 @@ ghost use Rattle.dash_model.specs.History.{VersionsStayBelowGreatest};
 ghost use Rattle.dash_model.specs.LineFacts.{RunsKeepLines};
 ghost use Rattle.dash_model.specs.LockFacts.{MessagesAreInRange, RunsKeepLocks};
 ghost use Rattle.dash_model.specs.MachineLaws.{EventsFixEffects, LanesAreQueues, StepsChangeOnePart, StampsRise, CommitsAreNumbered, EventsHappen, LocalRunsGrow, MergesAreRuns};
+ghost use Rattle.dash_model.specs.TableAccesses.{RowsOfAccesses};
+ghost use Rattle.dash_model.specs.TableHarts.{RowsOfHarts};
+ghost use Rattle.dash_model.specs.TableHome.{RowsOfHome};
+ghost use Rattle.dash_model.specs.TableLines.{RowsOfLines};
+ghost use Rattle.dash_model.specs.TableLocks.{RowsOfLocks};
+ghost use Rattle.dash_model.specs.TableMessages.{RowsOfMessages};
 
 /// Every run keeps the facts of each line of memory: one token, whose content is by the log the current
 /// one, in its version and in each word; an entry that knows where it is; messages that go to the home, or
@@ -100,4 +106,36 @@ pub fn commits_are_numbered()
 /// times their budget. That is below the greatest version, and so is each version that a commit makes.
 pub fn versions_stay_below_the_greatest()
     ensures { VersionsStayBelowGreatest }
+{}
+
+/// The table's rows of the instructions that use no line, on concrete parts of a small machine: what each
+/// event makes of its cluster, where it may happen, and where it never does, once for each of its conditions.
+pub fn rows_of_harts()
+    ensures { RowsOfHarts }
+{}
+
+/// The same of loads, stores, commits, atomic operations and failed SCs.
+pub fn rows_of_accesses()
+    ensures { RowsOfAccesses }
+{}
+
+/// The same of what a cluster does to a line by itself.
+pub fn rows_of_lines()
+    ensures { RowsOfLines }
+{}
+
+/// The rows of the messages that the home of a line takes: what each makes of the home and sends, by the
+/// entry, and that it makes nothing where no case applies.
+pub fn rows_of_home()
+    ensures { RowsOfHome }
+{}
+
+/// The same of the other messages of lines, by what the cluster has.
+pub fn rows_of_messages()
+    ensures { RowsOfMessages }
+{}
+
+/// The rows of lock words: grants, frees, and their messages.
+pub fn rows_of_locks()
+    ensures { RowsOfLocks }
 {}
