@@ -26,7 +26,6 @@ pub mod BufferFacts
 pub mod Lanes
 pub mod Effects
 pub mod Changes
-pub mod Example
 pub mod Taking
 pub mod Ready
 pub mod Lifted
@@ -56,3 +55,11 @@ pub mod TableHome
 pub mod TableMessages
 pub mod TableLines
 pub mod TableLocks
+pub mod ExampleParts
+pub mod ExampleMoving
+pub mod ExampleSharing
+pub mod ExampleInvalidating
+pub mod ExampleLocking
+pub mod ExampleWaiting
+pub mod ExampleTrapping
+pub mod Examples

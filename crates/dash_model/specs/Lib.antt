@@ -35,7 +35,8 @@ pub mod OnLine
 pub mod LineFacts
 pub mod BufferFacts
 pub mod MachineLaws
-pub mod Example
+pub mod ExampleLogs
+pub mod Examples
 pub mod TableParts
 pub mod TableCode
 pub mod TableHarts

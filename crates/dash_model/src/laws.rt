@@ -1,7 +1,7 @@
 //! Laws of the definitions. The functions do nothing: their contracts are the laws.
 ghost use Rattle.dash_model.specs.BufferFacts.{BuffersHoldUncommittedStores};
 ghost use Rattle.dash_model.specs.Cases.{CasesApply};
-ghost use Rattle.dash_model.specs.Example.{ExampleRuns};
+ghost use Rattle.dash_model.specs.Examples.{ExampleRuns};
 ghost use Rattle.dash_model.specs.History.{VersionsStayBelowGreatest};
 ghost use Rattle.dash_model.specs.LineFacts.{RunsKeepLines};
 ghost use Rattle.dash_model.specs.LockFacts.{MessagesAreInRange, RunsKeepLocks};
@@ -73,9 +73,9 @@ pub fn stamps_rise()
     ensures { StampsRise }
 {}
 
-/// There are runs: one hart asks for a line, gets it, installs it and loads from it, and then asks for
-/// a lock word and is granted it.
-pub fn a_run_of_nine_events()
+/// There are complete runs, of one and two clusters and one and two harts in a cluster, in which every
+/// event and every message of the table is there, and every exit status that a complete run can have.
+pub fn every_row_happens()
     ensures { ExampleRuns }
 {}
 
