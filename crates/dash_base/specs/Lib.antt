@@ -5,3 +5,4 @@ pub mod Bounds
 pub mod Topology
 pub mod Places
 pub mod Outside
+pub mod MemoryHost

@@ -1,17 +1,21 @@
 //! A host that lives in memory, for tests and for proofs about what a run prints.
-ghost use Rattle.std.specs.Prelude.{◌≡◌, ℕ, ◌+◌, ◌<◌, ◌≤◌, [], ◌++◌, length, Option, Some, IfOk, IfSome, Err, IsErrOf, option_map, true, vec_len, vec_capacity};
+ghost use Rattle.std.specs.Prelude.{◌≡◌, ◌==◌, ◌↔◌, ℕ, ◌+◌, ◌<◌, ◌≤◌, [], ◌++◌, length, Some, IfOk, IfSome, IfNone, IsSomeAnd, Err, IsErrOf, IsTrue, is_err, option_map, true, vec_len, vec_capacity};
 ghost use Rattle.std.specs.BTreeMap.{get_by_text};
+ghost use Rattle.std.specs.List.{list_any};
 ghost use Rattle.dash_base.specs.Outside.{on};
+ghost use Rattle.dash_base.specs.MemoryHost.{files_of, file_at, fails_load, fails_print, after_load, after_print};
 
 use crate::host::{Failed, Host, LoadFault, Stream};
 use crate::memory::OutOfMemory;
 use std::alloc::Global;
 use std::collections::BTreeMap;
+use std::marker::Model;
 
 /// A host with files of its own, that keeps what is printed, and fails where it is told to.
 ///
 /// Calls of `load` and `print` are numbered together, from 0. A call whose number is among `failing`
-/// fails, and so do the load of a name that is not there and a print that passes the room.
+/// fails, and so do the load of a name that is not there and a print that passes the room. Each
+/// failure is counted, up to the last value of its count.
 #[derive(Drop)]
 pub struct MemoryHost {
     files: BTreeMap<String, Vec<u8>>,
@@ -22,8 +26,25 @@ pub struct MemoryHost {
     err: Vec<u8>,
     load_faults: u64,
     print_faults: u64,
-    ghost out_has_room: { room ≤ vec_capacity out },
-    ghost err_has_room: { room ≤ vec_capacity err },
+}
+
+impl Model for MemoryHost {
+    ghost use Rattle.std.specs.Prelude.{◌≤◌, vec_len, vec_capacity};
+    ghost use Rattle.dash_base.specs.MemoryHost.{HostState, files_of};
+
+    ghost Value = { HostState };
+
+    ghost view = { λ h. record {
+      files = files_of h.files;
+      failing = h.failing.items;
+      calls = h.calls;
+      room = h.room;
+      printed = record { out = h.out.items; err = h.err.items };
+      load_faults = h.load_faults;
+      print_faults = h.print_faults;
+    } };
+
+    ghost invariant = { λ h. (vec_len h.out ≤ h.room) × (vec_len h.err ≤ h.room) × (h.room ≤ vec_capacity h.out) × (h.room ≤ vec_capacity h.err) };
 }
 
 impl MemoryHost {
@@ -34,10 +55,16 @@ impl MemoryHost {
         room: u32,
         failing: Vec<u32>,
     ) -> Result<MemoryHost, OutOfMemory>
-        ensures printed { IfOk result (λ h. ⟦<MemoryHost as Host>⟧.printed h ≡ Some (record { out = []; err = [] })) }
+        ensures state { IfOk result (λ h. h ≡ record {
+          files = files_of files;
+          failing = failing.items;
+          calls = 0;
+          room = room;
+          printed = record { out = []; err = [] };
+          load_faults = 0;
+          print_faults = 0;
+        }) }
         ensures files { IfOk result (λ h. ⟦<MemoryHost as Host>⟧.files h ≡ Some (λ name. option_map (λ bytes. bytes.items) (get_by_text files name))) }
-        ensures load_faults { IfOk result (λ h. ⟦<MemoryHost as Host>⟧.load_faults h ≡ 0) }
-        ensures print_faults { IfOk result (λ h. ⟦<MemoryHost as Host>⟧.print_faults h ≡ 0) }
     {
         let out = Vec::with_capacity(alloc, room as usize)?;
         let err = Vec::with_capacity(alloc, room as usize)?;
@@ -55,7 +82,7 @@ impl MemoryHost {
 
     /// What was printed on a stream.
     pub fn shown(&self, to: Stream) -> &[u8]
-        ensures { IfSome (⟦<MemoryHost as Host>⟧.printed self.now) (λ printed. result.now ≡ on to printed) }
+        ensures { result.now ≡ on to self.now.printed }
     {
         match to {
             Stream::Out => self.out.as_slice(),
@@ -65,23 +92,23 @@ impl MemoryHost {
 
     /// How many loads failed.
     pub fn failed_loads(&self) -> u64
-        ensures { result ≡ ⟦<MemoryHost as Host>⟧.load_faults self.now }
+        ensures { result ≡ self.now.load_faults }
     {
         self.load_faults
     }
 
     /// How many prints failed.
     pub fn failed_prints(&self) -> u64
-        ensures { result ≡ ⟦<MemoryHost as Host>⟧.print_faults self.now }
+        ensures { result ≡ self.now.print_faults }
     {
         self.print_faults
     }
 }
 
 impl Host for MemoryHost {
-    ghost files = { λ h. Some (λ name. option_map (λ bytes. bytes.items) (get_by_text h.files name)) };
+    ghost files = { λ h. Some (file_at h.files) };
 
-    ghost printed = { λ h. Some (record { out = h.out.items; err = h.err.items }) };
+    ghost printed = { λ h. Some h.printed };
 
     ghost load_faults = { λ h. h.load_faults };
 
@@ -89,23 +116,35 @@ impl Host for MemoryHost {
 
     ghost may_load = { λ h name. true };
 
-    fn load(&mut self, alloc: Global, name: &str, limit: u64) -> Result<Vec<u8>, LoadFault> {
+    fn load(&mut self, alloc: Global, name: &str, limit: u64) -> Result<Vec<u8>, LoadFault>
+        ensures fails { IsErrOf result LoadFault.Failed ↔ IsTrue (fails_load name.now self.old) }
+        ensures state { self.new ≡ after_load result self.old }
+
+        ensures small { IfOk result (λ bytes. vec_len bytes ≤ limit) }
+        ensures bytes { IfOk result (λ bytes. file_at self.old.files name.now ≡ Some bytes.items) }
+        ensures large { (size : ℕ) → result ≡ Err (LoadFault.TooLarge size) → limit < size }
+        ensures size { (size : ℕ) → result ≡ Err (LoadFault.TooLarge size)
+            → IsSomeAnd (file_at self.old.files name.now) (λ bytes. length bytes ≡ size) }
+    {
         let fails = is_among(&self.failing, self.calls);
         self.calls = self.calls.saturating_add(1);
         if fails {
             self.load_faults = self.load_faults.saturating_add(1);
             return Err(LoadFault::Failed);
         }
-        match self.files.get(name) {
+        match file_of(&self.files, name) {
             None => {
                 self.load_faults = self.load_faults.saturating_add(1);
                 Err(LoadFault::Failed)
             }
-            Some(bytes) => copy_within(alloc, bytes.as_slice(), limit),
+            Some(bytes) => copy_within(alloc, bytes, limit),
         }
     }
 
-    fn print(&mut self, to: Stream, bytes: &[u8]) -> Result<(), Failed> {
+    fn print(&mut self, to: Stream, bytes: &[u8]) -> Result<(), Failed>
+        ensures fails { is_err result ≡ fails_print to bytes.now self.old }
+        ensures state { self.new ≡ after_print to bytes.now result self.old }
+    {
         let fails = is_among(&self.failing, self.calls);
         self.calls = self.calls.saturating_add(1);
         let printed = self.shown(to).len();
@@ -122,8 +161,21 @@ impl Host for MemoryHost {
 }
 
 /// Whether the number of a call is among these.
-fn is_among(numbers: &Vec<u32>, call: u64) -> bool {
+fn is_among(numbers: &Vec<u32>, call: u64) -> bool
+    ensures { result ≡ list_any (λ number. number == call) numbers.now.items }
+{
     numbers.iter().any(|number| u64::from(*number) == call)
+}
+
+/// The bytes of a file, if it is there.
+fn file_of<'a>(files: &'a BTreeMap<String, Vec<u8>>, name: &str) -> Option<&'a [u8]>
+    ensures found { IfSome result (λ bytes. file_at (files_of files.now) name.now ≡ Some bytes.now) }
+    ensures absent { IfNone result (file_at (files_of files.now) name.now ≡ None) }
+{
+    match files.get(name) {
+        Some(bytes) => Some(bytes.as_slice()),
+        None => None,
+    }
 }
 
 /// A copy of a file of at most `limit` bytes.
