@@ -1,5 +1,5 @@
 -- What contracts say of the outside: files, printed bytes, and counts of faults.
-use Rattle.std.specs.Prelude.{◌≡◌, ℕ, ◌-◌, ◌^◌, ◌<◌, ◌≤◌, ◌⊎◌, List, ◌++◌, take, Option, IfSome, IsSomeAnd, Result, Err}
+use Rattle.std.specs.Prelude.{◌≡◌, ℕ, ◌-◌, ◌^◌, ◌<◌, ◌≤◌, ◌⊎◌, List, ◌++◌, take, Option, option_map, IfSome, IsSomeAnd, Result, Ok, Err}
 use Rattle.dash_base.specs.declared.host.LoadFault.{LoadFault}
 use Rattle.dash_base.specs.declared.host.LoadFault.TheVariants as fault
 use Rattle.dash_base.specs.declared.host.Stream.{Stream}
@@ -49,3 +49,18 @@ Rose old new = (old < new) ⊎ (last_count ≤ old)
 abbrev pub CountsLoad : {A : Type 0} → Result A LoadFault → ℕ → ℕ → Type 0
 CountsLoad (Err fault.Failed) old new = Rose old new
 CountsLoad _ old new = new ≡ old
+
+-- a call that was made: a load of a name; a print of bytes on a stream that was answered Ok; or one that failed
+pub data Call : Type 0 where
+  load_of : List ℕ → Call
+  print_on : Stream → List ℕ → Call
+  failed_print_on : Stream → List ℕ → Call
+
+-- a print, by its answer
+abbrev pub print_call : {A E : Type 0} → Stream → List ℕ → Result A E → Call
+print_call to bytes (Ok _) = print_on to bytes
+print_call to bytes (Err _) = failed_print_on to bytes
+
+-- the calls that are told of, and these after them
+abbrev pub with_calls : Option (List Call) → List Call → Option (List Call)
+with_calls told made = option_map (λ before. before ++ made) told

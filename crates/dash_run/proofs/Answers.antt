@@ -53,5 +53,5 @@ answer_on_asked q t bytes (Report status console harts accesses log) simple acce
   state = (answer.report).state;
   run = (answer.report).run;
   is_status = (answer.report).is_status;
-  is_text = (answer.report).is_text;
+  is_report = (answer.report).is_report;
 }

@@ -1,6 +1,6 @@
 -- The cause of each status, from how a call may end.
 use Rattle.std.proofs.Common.{◌≡◌, ℕ, ◌⊎◌, inl, inr, List, Option, Bool, true, false, if◌then◌else◌, refl, sym, ◌∙◌, subst, arith}
-use Rattle.dash_base.specs.Outside.{Files, Printed}
+use Rattle.dash_base.specs.Outside.{Files, Printed, Call}
 use Rattle.dash_base.specs.declared.host.Stream.{Stream}
 use Rattle.dash_base.specs.declared.topology.Topology.{Topology}
 use Rattle.dash_event.specs.declared.event.Event.{Event}
@@ -22,8 +22,8 @@ choice_status false false false = inl refl
 pub run_status : (t : Topology) (harts : List HartState) → IsRunStatus (status_of t harts)
 run_status t harts = choice_status _ _ _
 
-pub reported_status : (q : Request) (bytes : List ℕ) (status : ℕ) (text : List ℕ) (log : List Event) → IsReported q bytes status text log → IsRunStatus status
-reported_status q bytes status text log report = subst IsRunStatus (sym report.is_status) (run_status report.machine (harts_of report.machine report.state))
+pub reported_status : (q : Request) (bytes : List ℕ) (status : ℕ) (texts : List (List ℕ)) (log : List Event) → IsReported q bytes status texts log → IsRunStatus status
+reported_status q bytes status texts log report = subst IsRunStatus (sym report.is_status) (run_status report.machine (harts_of report.machine report.state))
 
 -- no run ends with the status of something else
 pub other_status : (status other : ℕ) → IsRunStatus status → status ≡ other → (other ≡ 0 → ⊥) → (other ≡ 10 → ⊥) → (other ≡ 11 → ⊥) → (other ≡ 12 → ⊥) → ⊥
@@ -37,91 +37,91 @@ no_run status other run = omega arith
 
 -- ---- what is owed with a status
 
-pub owes_two : (words : List (List ℕ)) (files : Option Files) (before after status : ℕ) (to : Stream) (text : List ℕ) (log : List Event)
-    → IsOutput words files before after status to text log → status ≡ 2 → IsUsageError words
-owes_two words files before after status to text log (usage none same) eq = none
-owes_two words files before after status to text log (failed q asks rose) eq = absurd (omega arith)
-owes_two words files before after status to text log (large q size asks is same) eq = absurd (omega arith)
-owes_two words files before after status to text log (bad_topology q bytes refusal asks given is same) eq = absurd (omega arith)
-owes_two words files before after status to text log (refused q bytes refusal asks given is same) eq = absurd (omega arith)
-owes_two words files before after status to text log (reported q bytes s t l asks given is same) eq = absurd (other_status s 2 (reported_status q bytes s t l is) eq (λ e. omega arith) (λ e. omega arith) (λ e. omega arith) (λ e. omega arith))
+pub owes_two : (words : List (List ℕ)) (files : Option Files) (before after status : ℕ) (to : Stream) (texts : List (List ℕ)) (log : List Event)
+    → IsOutput words files before after status to texts log → status ≡ 2 → IsUsageError words
+owes_two words files before after status to texts log (usage none same) eq = none
+owes_two words files before after status to texts log (failed q asks rose) eq = absurd (omega arith)
+owes_two words files before after status to texts log (large q size asks is same) eq = absurd (omega arith)
+owes_two words files before after status to texts log (bad_topology q bytes refusal asks given is same) eq = absurd (omega arith)
+owes_two words files before after status to texts log (refused q bytes refusal asks given is same) eq = absurd (omega arith)
+owes_two words files before after status to texts log (reported q bytes s t l asks given is same) eq = absurd (other_status s 2 (reported_status q bytes s t l is) eq (λ e. omega arith) (λ e. omega arith) (λ e. omega arith) (λ e. omega arith))
 
-pub owes_three : (words : List (List ℕ)) (files : Option Files) (before after status : ℕ) (to : Stream) (text : List ℕ) (log : List Event)
-    → IsOutput words files before after status to text log → status ≡ 3 → NamesRefused words files
-owes_three words files before after status to text log (usage none same) eq = absurd (omega arith)
-owes_three words files before after status to text log (failed q asks rose) eq = absurd (omega arith)
-owes_three words files before after status to text log (large q size asks is same) eq = absurd (omega arith)
-owes_three words files before after status to text log (bad_topology q bytes refusal asks given is same) eq = absurd (omega arith)
-owes_three words files before after status to text log (refused q bytes refusal asks given is same) eq = record { request = q; asked = asks; bytes = bytes; given = given; refusal = refusal; refused = is }
-owes_three words files before after status to text log (reported q bytes s t l asks given is same) eq = absurd (other_status s 3 (reported_status q bytes s t l is) eq (λ e. omega arith) (λ e. omega arith) (λ e. omega arith) (λ e. omega arith))
+pub owes_three : (words : List (List ℕ)) (files : Option Files) (before after status : ℕ) (to : Stream) (texts : List (List ℕ)) (log : List Event)
+    → IsOutput words files before after status to texts log → status ≡ 3 → NamesRefused words files
+owes_three words files before after status to texts log (usage none same) eq = absurd (omega arith)
+owes_three words files before after status to texts log (failed q asks rose) eq = absurd (omega arith)
+owes_three words files before after status to texts log (large q size asks is same) eq = absurd (omega arith)
+owes_three words files before after status to texts log (bad_topology q bytes refusal asks given is same) eq = absurd (omega arith)
+owes_three words files before after status to texts log (refused q bytes refusal asks given is same) eq = record { request = q; asked = asks; bytes = bytes; given = given; refusal = refusal; refused = is }
+owes_three words files before after status to texts log (reported q bytes s t l asks given is same) eq = absurd (other_status s 3 (reported_status q bytes s t l is) eq (λ e. omega arith) (λ e. omega arith) (λ e. omega arith) (λ e. omega arith))
 
-pub owes_four : (words : List (List ℕ)) (files : Option Files) (before after status : ℕ) (to : Stream) (text : List ℕ) (log : List Event)
-    → IsOutput words files before after status to text log → status ≡ 4 → NamesBadTopology words files
-owes_four words files before after status to text log (usage none same) eq = absurd (omega arith)
-owes_four words files before after status to text log (failed q asks rose) eq = absurd (omega arith)
-owes_four words files before after status to text log (large q size asks is same) eq = absurd (omega arith)
-owes_four words files before after status to text log (bad_topology q bytes refusal asks given is same) eq = record { request = q; asked = asks; bytes = bytes; given = given; refusal = refusal; refused = is }
-owes_four words files before after status to text log (refused q bytes refusal asks given is same) eq = absurd (omega arith)
-owes_four words files before after status to text log (reported q bytes s t l asks given is same) eq = absurd (other_status s 4 (reported_status q bytes s t l is) eq (λ e. omega arith) (λ e. omega arith) (λ e. omega arith) (λ e. omega arith))
+pub owes_four : (words : List (List ℕ)) (files : Option Files) (before after status : ℕ) (to : Stream) (texts : List (List ℕ)) (log : List Event)
+    → IsOutput words files before after status to texts log → status ≡ 4 → NamesBadTopology words files
+owes_four words files before after status to texts log (usage none same) eq = absurd (omega arith)
+owes_four words files before after status to texts log (failed q asks rose) eq = absurd (omega arith)
+owes_four words files before after status to texts log (large q size asks is same) eq = absurd (omega arith)
+owes_four words files before after status to texts log (bad_topology q bytes refusal asks given is same) eq = record { request = q; asked = asks; bytes = bytes; given = given; refusal = refusal; refused = is }
+owes_four words files before after status to texts log (refused q bytes refusal asks given is same) eq = absurd (omega arith)
+owes_four words files before after status to texts log (reported q bytes s t l asks given is same) eq = absurd (other_status s 4 (reported_status q bytes s t l is) eq (λ e. omega arith) (λ e. omega arith) (λ e. omega arith) (λ e. omega arith))
 
-pub owes_five : (words : List (List ℕ)) (files : Option Files) (loads prints : Change ℕ) (status : ℕ) (to : Stream) (text : List ℕ) (log : List Event)
-    → IsOutput words files loads.old loads.new status to text log → status ≡ 5 → IsFault words files loads prints
-owes_five words files loads prints status to text log (usage none same) eq = absurd (omega arith)
-owes_five words files loads prints status to text log (failed q asks rose) eq = inl rose
-owes_five words files loads prints status to text log (large q size asks is same) eq = inr (inr (record { request = q; asked = asks; size = size; large = is }))
-owes_five words files loads prints status to text log (bad_topology q bytes refusal asks given is same) eq = absurd (omega arith)
-owes_five words files loads prints status to text log (refused q bytes refusal asks given is same) eq = absurd (omega arith)
-owes_five words files loads prints status to text log (reported q bytes s t l asks given is same) eq = absurd (other_status s 5 (reported_status q bytes s t l is) eq (λ e. omega arith) (λ e. omega arith) (λ e. omega arith) (λ e. omega arith))
+pub owes_five : (words : List (List ℕ)) (files : Option Files) (loads prints : Change ℕ) (status : ℕ) (to : Stream) (texts : List (List ℕ)) (log : List Event)
+    → IsOutput words files loads.old loads.new status to texts log → status ≡ 5 → IsFault words files loads prints
+owes_five words files loads prints status to texts log (usage none same) eq = absurd (omega arith)
+owes_five words files loads prints status to texts log (failed q asks rose) eq = inl rose
+owes_five words files loads prints status to texts log (large q size asks is same) eq = inr (inr (record { request = q; asked = asks; size = size; large = is }))
+owes_five words files loads prints status to texts log (bad_topology q bytes refusal asks given is same) eq = absurd (omega arith)
+owes_five words files loads prints status to texts log (refused q bytes refusal asks given is same) eq = absurd (omega arith)
+owes_five words files loads prints status to texts log (reported q bytes s t l asks given is same) eq = absurd (other_status s 5 (reported_status q bytes s t l is) eq (λ e. omega arith) (λ e. omega arith) (λ e. omega arith) (λ e. omega arith))
 
-pub owes_six : (words : List (List ℕ)) (files : Option Files) (before after status : ℕ) (to : Stream) (text : List ℕ) (log : List Event)
-    → IsOutput words files before after status to text log → status ≡ 6 → ⊥
-owes_six words files before after status to text log (usage none same) eq = omega arith
-owes_six words files before after status to text log (failed q asks rose) eq = omega arith
-owes_six words files before after status to text log (large q size asks is same) eq = omega arith
-owes_six words files before after status to text log (bad_topology q bytes refusal asks given is same) eq = omega arith
-owes_six words files before after status to text log (refused q bytes refusal asks given is same) eq = omega arith
-owes_six words files before after status to text log (reported q bytes s t l asks given is same) eq = (other_status s 6 (reported_status q bytes s t l is) eq (λ e. omega arith) (λ e. omega arith) (λ e. omega arith) (λ e. omega arith))
+pub owes_six : (words : List (List ℕ)) (files : Option Files) (before after status : ℕ) (to : Stream) (texts : List (List ℕ)) (log : List Event)
+    → IsOutput words files before after status to texts log → status ≡ 6 → ⊥
+owes_six words files before after status to texts log (usage none same) eq = omega arith
+owes_six words files before after status to texts log (failed q asks rose) eq = omega arith
+owes_six words files before after status to texts log (large q size asks is same) eq = omega arith
+owes_six words files before after status to texts log (bad_topology q bytes refusal asks given is same) eq = omega arith
+owes_six words files before after status to texts log (refused q bytes refusal asks given is same) eq = omega arith
+owes_six words files before after status to texts log (reported q bytes s t l asks given is same) eq = (other_status s 6 (reported_status q bytes s t l is) eq (λ e. omega arith) (λ e. omega arith) (λ e. omega arith) (λ e. omega arith))
 
-pub owes_run : (words : List (List ℕ)) (files : Option Files) (before after status : ℕ) (to : Stream) (text : List ℕ) (log : List Event)
-    → IsOutput words files before after status to text log → IsRunStatus status → NamesRun words files status log
-owes_run words files before after status to text log (usage none same) run = absurd (no_run _ (inl refl) run)
-owes_run words files before after status to text log (failed q asks rose) run = absurd (no_run _ (inr (inr (inr (inl refl)))) run)
-owes_run words files before after status to text log (large q size asks is same) run = absurd (no_run _ (inr (inr (inr (inl refl)))) run)
-owes_run words files before after status to text log (bad_topology q bytes refusal asks given is same) run = absurd (no_run _ (inr (inr (inl refl))) run)
-owes_run words files before after status to text log (refused q bytes refusal asks given is same) run = absurd (no_run _ (inr (inl refl)) run)
-owes_run words files before after status to text log (reported q bytes s t l asks given is same) run = record { request = q; asked = asks; bytes = bytes; given = given; text = t; reported = is }
+pub owes_run : (words : List (List ℕ)) (files : Option Files) (before after status : ℕ) (to : Stream) (texts : List (List ℕ)) (log : List Event)
+    → IsOutput words files before after status to texts log → IsRunStatus status → NamesRun words files status log
+owes_run words files before after status to texts log (usage none same) run = absurd (no_run _ (inl refl) run)
+owes_run words files before after status to texts log (failed q asks rose) run = absurd (no_run _ (inr (inr (inr (inl refl)))) run)
+owes_run words files before after status to texts log (large q size asks is same) run = absurd (no_run _ (inr (inr (inr (inl refl)))) run)
+owes_run words files before after status to texts log (bad_topology q bytes refusal asks given is same) run = absurd (no_run _ (inr (inr (inl refl))) run)
+owes_run words files before after status to texts log (refused q bytes refusal asks given is same) run = absurd (no_run _ (inr (inl refl)) run)
+owes_run words files before after status to texts log (reported q bytes s t l asks given is same) run = record { request = q; asked = asks; bytes = bytes; given = given; texts = t; reported = is }
 
 -- ---- the cause of each status
 
-pub usage_cause : (words : List (List ℕ)) (files : Option Files) (loads prints : Change ℕ) (printed : Change (Option Printed)) (status : ℕ) (log : List Event)
-    → Ends words files loads prints printed status log → status ≡ 2 → IsUsageError words
-usage_cause words files loads prints printed status log (printed_all s to text l owes steady follows) eq = owes_two _ _ _ _ _ _ _ _ owes eq
-usage_cause words files loads prints printed status log (print_failed s to text l owes rose follows) eq = absurd (omega arith)
-usage_cause words files loads prints printed status log (out_of_memory q asks steady same) eq = absurd (omega arith)
+pub usage_cause : (words : List (List ℕ)) (files : Option Files) (loads prints : Change ℕ) (printed : Change (Option Printed)) (calls : Change (Option (List Call))) (status : ℕ) (log : List Event)
+    → Ends words files loads prints printed calls status log → status ≡ 2 → IsUsageError words
+usage_cause words files loads prints printed calls status log (printed_all s to texts l owes steady follows made) eq = owes_two _ _ _ _ _ _ _ _ owes eq
+usage_cause words files loads prints printed calls status log (print_failed s to texts l owes rose follows made) eq = absurd (omega arith)
+usage_cause words files loads prints printed calls status log (out_of_memory q asks steady same made) eq = absurd (omega arith)
 
-pub refused_cause : (words : List (List ℕ)) (files : Option Files) (loads prints : Change ℕ) (printed : Change (Option Printed)) (status : ℕ) (log : List Event)
-    → Ends words files loads prints printed status log → status ≡ 3 → NamesRefused words files
-refused_cause words files loads prints printed status log (printed_all s to text l owes steady follows) eq = owes_three _ _ _ _ _ _ _ _ owes eq
-refused_cause words files loads prints printed status log (print_failed s to text l owes rose follows) eq = absurd (omega arith)
-refused_cause words files loads prints printed status log (out_of_memory q asks steady same) eq = absurd (omega arith)
+pub refused_cause : (words : List (List ℕ)) (files : Option Files) (loads prints : Change ℕ) (printed : Change (Option Printed)) (calls : Change (Option (List Call))) (status : ℕ) (log : List Event)
+    → Ends words files loads prints printed calls status log → status ≡ 3 → NamesRefused words files
+refused_cause words files loads prints printed calls status log (printed_all s to texts l owes steady follows made) eq = owes_three _ _ _ _ _ _ _ _ owes eq
+refused_cause words files loads prints printed calls status log (print_failed s to texts l owes rose follows made) eq = absurd (omega arith)
+refused_cause words files loads prints printed calls status log (out_of_memory q asks steady same made) eq = absurd (omega arith)
 
-pub misshapen_cause : (words : List (List ℕ)) (files : Option Files) (loads prints : Change ℕ) (printed : Change (Option Printed)) (status : ℕ) (log : List Event)
-    → Ends words files loads prints printed status log → status ≡ 4 → NamesBadTopology words files
-misshapen_cause words files loads prints printed status log (printed_all s to text l owes steady follows) eq = owes_four _ _ _ _ _ _ _ _ owes eq
-misshapen_cause words files loads prints printed status log (print_failed s to text l owes rose follows) eq = absurd (omega arith)
-misshapen_cause words files loads prints printed status log (out_of_memory q asks steady same) eq = absurd (omega arith)
+pub misshapen_cause : (words : List (List ℕ)) (files : Option Files) (loads prints : Change ℕ) (printed : Change (Option Printed)) (calls : Change (Option (List Call))) (status : ℕ) (log : List Event)
+    → Ends words files loads prints printed calls status log → status ≡ 4 → NamesBadTopology words files
+misshapen_cause words files loads prints printed calls status log (printed_all s to texts l owes steady follows made) eq = owes_four _ _ _ _ _ _ _ _ owes eq
+misshapen_cause words files loads prints printed calls status log (print_failed s to texts l owes rose follows made) eq = absurd (omega arith)
+misshapen_cause words files loads prints printed calls status log (out_of_memory q asks steady same made) eq = absurd (omega arith)
 
-pub fault_cause : (words : List (List ℕ)) (files : Option Files) (loads prints : Change ℕ) (printed : Change (Option Printed)) (status : ℕ) (log : List Event)
-    → Ends words files loads prints printed status log → status ≡ 5 → IsFault words files loads prints
-fault_cause words files loads prints printed status log (printed_all s to text l owes steady follows) eq = owes_five words files loads prints _ _ _ _ owes eq
-fault_cause words files loads prints printed status log (print_failed s to text l owes rose follows) eq = inr (inl rose)
-fault_cause words files loads prints printed status log (out_of_memory q asks steady same) eq = absurd (omega arith)
+pub fault_cause : (words : List (List ℕ)) (files : Option Files) (loads prints : Change ℕ) (printed : Change (Option Printed)) (calls : Change (Option (List Call))) (status : ℕ) (log : List Event)
+    → Ends words files loads prints printed calls status log → status ≡ 5 → IsFault words files loads prints
+fault_cause words files loads prints printed calls status log (printed_all s to texts l owes steady follows made) eq = owes_five words files loads prints _ _ _ _ owes eq
+fault_cause words files loads prints printed calls status log (print_failed s to texts l owes rose follows made) eq = inr (inl rose)
+fault_cause words files loads prints printed calls status log (out_of_memory q asks steady same made) eq = absurd (omega arith)
 
-pub run_cause : (words : List (List ℕ)) (files : Option Files) (loads prints : Change ℕ) (printed : Change (Option Printed)) (status : ℕ) (log : List Event)
-    → Ends words files loads prints printed status log → IsRunStatus status → NamesRun words files status log
-run_cause words files loads prints printed status log (printed_all s to text l owes steady follows) run = owes_run _ _ _ _ _ _ _ _ owes run
-run_cause words files loads prints printed status log (print_failed s to text l owes rose follows) run = absurd (no_run _ (inr (inr (inr (inl refl)))) run)
-run_cause words files loads prints printed status log (out_of_memory q asks steady same) run = absurd (no_run _ (inr (inr (inr (inr refl)))) run)
+pub run_cause : (words : List (List ℕ)) (files : Option Files) (loads prints : Change ℕ) (printed : Change (Option Printed)) (calls : Change (Option (List Call))) (status : ℕ) (log : List Event)
+    → Ends words files loads prints printed calls status log → IsRunStatus status → NamesRun words files status log
+run_cause words files loads prints printed calls status log (printed_all s to texts l owes steady follows made) run = owes_run _ _ _ _ _ _ _ _ owes run
+run_cause words files loads prints printed calls status log (print_failed s to texts l owes rose follows made) run = absurd (no_run _ (inr (inr (inr (inl refl)))) run)
+run_cause words files loads prints printed calls status log (out_of_memory q asks steady same made) run = absurd (no_run _ (inr (inr (inr (inr refl)))) run)
 
 -- the records of a run's log are those of a complete sequential run
 pub run_sequential : (words : List (List ℕ)) (files : Option Files) (status : ℕ) (log : List Event)
@@ -141,8 +141,8 @@ run_sequential words files status log named =
       complete = plain_complete _ _ _ _ run.run;
     }
 
-pub memory_quiet : (words : List (List ℕ)) (files : Option Files) (loads prints : Change ℕ) (printed : Change (Option Printed)) (status : ℕ) (log : List Event)
-    → Ends words files loads prints printed status log → status ≡ 6 → printed.new ≡ printed.old
-memory_quiet words files loads prints printed status log (printed_all s to text l owes steady follows) eq = absurd (owes_six _ _ _ _ _ _ _ _ owes eq)
-memory_quiet words files loads prints printed status log (print_failed s to text l owes rose follows) eq = absurd (omega arith)
-memory_quiet words files loads prints printed status log (out_of_memory q asks steady same) eq = same
+pub memory_quiet : (words : List (List ℕ)) (files : Option Files) (loads prints : Change ℕ) (printed : Change (Option Printed)) (calls : Change (Option (List Call))) (status : ℕ) (log : List Event)
+    → Ends words files loads prints printed calls status log → status ≡ 6 → printed.new ≡ printed.old
+memory_quiet words files loads prints printed calls status log (printed_all s to texts l owes steady follows made) eq = absurd (owes_six _ _ _ _ _ _ _ _ owes eq)
+memory_quiet words files loads prints printed calls status log (print_failed s to texts l owes rose follows made) eq = absurd (omega arith)
+memory_quiet words files loads prints printed calls status log (out_of_memory q asks steady same made) eq = same

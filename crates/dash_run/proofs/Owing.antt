@@ -1,24 +1,25 @@
 -- What a call owes, from what it has ready; and how it ends.
-use Rattle.std.proofs.Common.{◌≡◌, ℕ, inl, inr, List, [], ◌++◌, length, Option, Some, None, IfSome, IsSomeAnd, string_bytes, sym, ◌∙◌, subst}
-use Rattle.dash_base.specs.Outside.{Files, Printed, Appends, AppendsPart, Follows, Rose}
+use Rattle.std.proofs.Common.{◌≡◌, ℕ, inl, inr, List, [], ◌∷◌, map, length, Option, Some, None, IfSome, IsSomeAnd, string_bytes, refl, ap, sym, ◌∙◌, subst}
+use Rattle.dash_base.specs.Outside.{Files, Printed, Appends, AppendsPart, Follows, Rose, Call, load_of, print_on, with_calls}
 use Rattle.dash_base.specs.declared.host.Stream.{Stream}
 use Rattle.dash_event.specs.declared.event.Event.{Event}
+use Rattle.dash_run.proofs.Printing.{with_calls_twice, with_no_calls}
 use Rattle.dash_run.specs.declared.output.Output.{Output}
 use Rattle.dash_run.specs.declared.output.Output.TheVariants.{Usage, Line, Report}
-use Rattle.dash_run.specs.CommandLine.{Request, Asks, IsAsked}
-use Rattle.dash_run.specs.Outcome.{IsGiven, IsOutput, bad_topology, refused, reported, Ends, printed_all, print_failed, out_of_memory}
-use Rattle.dash_run.specs.Output.{IsAnswer, output_status, output_stream, output_text, output_log}
+use Rattle.dash_run.specs.CommandLine.{Request, Asks, IsAsked, IsUsageError}
+use Rattle.dash_run.specs.Outcome.{IsGiven, IsOutput, bad_topology, refused, reported, Ends, printed_all, print_failed, out_of_memory, LoadsOf, no_load, one_load, joined}
+use Rattle.dash_run.specs.Output.{IsAnswer, output_status, output_stream, owed_texts, output_log, HasLoaded, HasTried}
 
 pub answer_owed : (words : List (List ℕ)) (files : Option Files) (before after : ℕ) (q : Request) (bytes : List ℕ) (owed : Output)
     → Asks words q → IsGiven files q.name bytes → after ≡ before → IsAnswer q bytes owed
-    → IsOutput words files before after (output_status owed) (output_stream owed) (output_text owed) (output_log owed)
+    → IsOutput words files before after (output_status owed) (output_stream owed) (owed_texts owed) (output_log owed)
 answer_owed words files before after q bytes Usage asks given same answer = absurd answer
 answer_owed words files before after q bytes (Line status text) asks given same (inl line) =
     rw (line.status_is, line.text_is) (bad_topology q bytes line.refusal asks given line.refused same)
 answer_owed words files before after q bytes (Line status text) asks given same (inr line) =
     rw (line.status_is, line.text_is) (refused q bytes line.refusal asks given line.refused same)
 answer_owed words files before after q bytes (Report status console harts accesses log) asks given same answer =
-    reported q bytes status (console.items ++ string_bytes harts ++ string_bytes accesses) log.items asks given answer same
+    reported q bytes status (console.items ∷ string_bytes harts ∷ string_bytes accesses ∷ []) log.items asks given answer same
 
 -- what a host says of a file's size, at the size that it answered
 pub told_size : {R : Type 0} (files : Option Files) (name : List ℕ) (answer : ℕ → R) (result : R) (size : ℕ)
@@ -27,30 +28,56 @@ pub told_size : {R : Type 0} (files : Option Files) (name : List ℕ) (answer : 
 told_size (Some told) name answer result size says is = says size is
 told_size None name answer result size says is = tt
 
+-- the loads of a call that asks for something
+pub loads_asked : (words : List (List ℕ)) → IsAsked words → (calls : List Call) → LoadsOf words calls → (q : Request) × (Asks words q × (calls ≡ load_of q.name ∷ []))
+loads_asked words asked _ (no_load none) = absurd (none asked.request asked.asks)
+loads_asked words asked _ (one_load q asks) = (q, (asks, refl))
+
+-- what was loaded for a request is all that was asked of the host
+pub loaded_one : (words : List (List ℕ)) (q : Request) (old new : Option (List Call)) → Asks words q → new ≡ with_calls old (load_of q.name ∷ []) → HasLoaded words old new
+loaded_one words q old new asks made = record { calls = load_of q.name ∷ []; are_loads = one_load q asks; made = made }
+
+pub loaded_none : (words : List (List ℕ)) (told : Option (List Call)) → IsUsageError words → HasLoaded words told told
+loaded_none words told formless = record { calls = []; are_loads = no_load formless; made = with_no_calls told }
+
 -- how a call ends that printed all it owes
-pub ends_all : (words : List (List ℕ)) (files : Option Files) (l0 l1 l2 p0 p1 p2 : ℕ) (q0 q1 q2 : Option Printed) (status : ℕ) (to : Stream) (text : List ℕ) (log : List Event)
-    → IsOutput words files l0 l1 status to text log
-    → l2 ≡ l1 → p1 ≡ p0 → p2 ≡ p1 → q1 ≡ q0 → Follows (Appends to text) q1 q2
-    → Ends words files (record { old = l0; new = l2 }) (record { old = p0; new = p2 }) (record { old = q0; new = q2 }) status log
-ends_all words files l0 l1 l2 p0 p1 p2 q0 q1 q2 status to text log owes loads before steady kept follows =
-    printed_all status to text log
-    (let from : ℕ → Type 0 = λ l. IsOutput words files l0 l status to text log in subst from (sym loads) owes)
+pub ends_all : (words : List (List ℕ)) (files : Option Files) (l0 l1 l2 p0 p1 p2 : ℕ) (q0 q1 q2 : Option Printed) (c0 c1 c2 : Option (List Call)) (status : ℕ) (to : Stream) (texts : List (List ℕ)) (log : List Event)
+    → IsOutput words files l0 l1 status to texts log
+    → l2 ≡ l1 → p1 ≡ p0 → p2 ≡ p1 → q1 ≡ q0 → Follows (Appends to (joined texts)) q1 q2 → HasLoaded words c0 c1 → c2 ≡ with_calls c1 (map (print_on to) texts)
+    → Ends words files (record { old = l0; new = l2 }) (record { old = p0; new = p2 }) (record { old = q0; new = q2 }) (record { old = c0; new = c2 }) status log
+ends_all words files l0 l1 l2 p0 p1 p2 q0 q1 q2 c0 c1 c2 status to texts log owes loads before steady kept follows loaded printed =
+    printed_all status to texts log
+    (let from : ℕ → Type 0 = λ l. IsOutput words files l0 l status to texts log in subst from (sym loads) owes)
     (steady ∙ before)
-    (let from : Option Printed → Type 0 = λ q. Follows (Appends to text) q q2 in subst from kept follows)
+    (let from : Option Printed → Type 0 = λ q. Follows (Appends to (joined texts)) q q2 in subst from kept follows)
+    (record {
+      loaded = loaded.calls;
+      are_loads = loaded.are_loads;
+      made = printed ∙ ap (λ c. with_calls c (map (print_on to) texts)) loaded.made ∙ with_calls_twice c0 loaded.calls (map (print_on to) texts);
+    })
 
 -- and one whose print failed
-pub ends_part : (words : List (List ℕ)) (files : Option Files) (l0 l1 l2 p0 p1 p2 : ℕ) (q0 q1 q2 : Option Printed) (status : ℕ) (to : Stream) (text : List ℕ) (log : List Event)
-    → IsOutput words files l0 l1 status to text log
-    → l2 ≡ l1 → p1 ≡ p0 → Rose p1 p2 → q1 ≡ q0 → Follows (AppendsPart to text) q1 q2
-    → Ends words files (record { old = l0; new = l2 }) (record { old = p0; new = p2 }) (record { old = q0; new = q2 }) 5 log
-ends_part words files l0 l1 l2 p0 p1 p2 q0 q1 q2 status to text log owes loads before rose kept follows =
-    print_failed status to text log
-    (let from : ℕ → Type 0 = λ l. IsOutput words files l0 l status to text log in subst from (sym loads) owes)
+pub ends_part : (words : List (List ℕ)) (files : Option Files) (l0 l1 l2 p0 p1 p2 : ℕ) (q0 q1 q2 : Option Printed) (c0 c1 c2 : Option (List Call)) (status : ℕ) (to : Stream) (texts : List (List ℕ)) (log : List Event)
+    → IsOutput words files l0 l1 status to texts log
+    → l2 ≡ l1 → p1 ≡ p0 → Rose p1 p2 → q1 ≡ q0 → Follows (AppendsPart to (joined texts)) q1 q2 → HasLoaded words c0 c1 → HasTried to texts c1 c2
+    → Ends words files (record { old = l0; new = l2 }) (record { old = p0; new = p2 }) (record { old = q0; new = q2 }) (record { old = c0; new = c2 }) 5 log
+ends_part words files l0 l1 l2 p0 p1 p2 q0 q1 q2 c0 c1 c2 status to texts log owes loads before rose kept follows loaded tried =
+    print_failed status to texts log
+    (let from : ℕ → Type 0 = λ l. IsOutput words files l0 l status to texts log in subst from (sym loads) owes)
     (let from : ℕ → Type 0 = λ p. Rose p p2 in subst from before rose)
-    (let from : Option Printed → Type 0 = λ q. Follows (AppendsPart to text) q q2 in subst from kept follows)
+    (let from : Option Printed → Type 0 = λ q. Follows (AppendsPart to (joined texts)) q q2 in subst from kept follows)
+    (record {
+      loaded = loaded.calls;
+      are_loads = loaded.are_loads;
+      tried = tried.calls;
+      breaks_off = tried.breaks_off;
+      made = tried.made ∙ ap (λ c. with_calls c tried.calls) loaded.made ∙ with_calls_twice c0 loaded.calls tried.calls;
+    })
 
 -- and one that had no memory
-pub ends_early : (words : List (List ℕ)) (files : Option Files) (l0 l1 p0 p1 : ℕ) (q0 q1 : Option Printed)
-    → IsAsked words → p1 ≡ p0 → q1 ≡ q0
-    → Ends words files (record { old = l0; new = l1 }) (record { old = p0; new = p1 }) (record { old = q0; new = q1 }) 6 []
-ends_early words files l0 l1 p0 p1 q0 q1 asked faults printed = out_of_memory asked.request asked.asks faults printed
+pub ends_early : (words : List (List ℕ)) (files : Option Files) (l0 l1 p0 p1 : ℕ) (q0 q1 : Option Printed) (c0 c1 : Option (List Call))
+    → IsAsked words → p1 ≡ p0 → q1 ≡ q0 → HasLoaded words c0 c1
+    → Ends words files (record { old = l0; new = l1 }) (record { old = p0; new = p1 }) (record { old = q0; new = q1 }) (record { old = c0; new = c1 }) 6 []
+ends_early words files l0 l1 p0 p1 q0 q1 c0 c1 asked faults printed loaded =
+    let named = loads_asked words asked loaded.calls loaded.are_loads in
+    out_of_memory named.0 named.1.0 faults printed (loaded.made ∙ ap (with_calls c0) named.1.1)

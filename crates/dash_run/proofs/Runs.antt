@@ -237,16 +237,16 @@ one_machine clusters harts budget a b s u =
     (s.buffer_is ∙ sym u.buffer_is) (s.acks_is ∙ sym u.acks_is) (s.prefetch_is ∙ sym u.prefetch_is) (s.stack_is ∙ sym u.stack_is)
 
 -- a report is one
-pub one_report : (q : Request) (bytes : List ℕ) (status status' : ℕ) (text text' : List ℕ) (log log' : List Event)
-    → IsReported q bytes status text log → IsReported q bytes status' text' log' → (status ≡ status') × (text ≡ text') × (log ≡ log')
-one_report q bytes status status' text text' log log' a b =
+pub one_report : (q : Request) (bytes : List ℕ) (status status' : ℕ) (texts texts' : List (List ℕ)) (log log' : List Event)
+    → IsReported q bytes status texts log → IsReported q bytes status' texts' log' → (status ≡ status') × (texts ≡ texts') × (log ≡ log')
+one_report q bytes status status' texts texts' log log' a b =
     let machine : a.machine ≡ b.machine = one_machine q.clusters q.harts q.budget a.machine b.machine a.is_machine.simple b.is_machine.simple in
     let run : IsRotationRun (image_of bytes) b.machine log a.state = subst (λ t. IsRotationRun (image_of bytes) t log a.state) machine a.run in
     let one = one_rotation_run (image_of bytes) b.machine log log' a.state b.state run b.run in
     let logs : log ≡ log' = one.0 in
     let states : a.state ≡ b.state = one.1 in (
       a.is_status ∙ (λ i. status_of (machine i) (harts_of (machine i) (states i))) ∙ sym b.is_status,
-      a.is_text ∙ (λ i. report_of (machine i) (states i) (logs i)) ∙ sym b.is_text,
+      a.is_report ∙ (λ i. report_of (machine i) (states i) (logs i)) ∙ sym b.is_report,
       logs,
     )
 

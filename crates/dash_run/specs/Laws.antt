@@ -39,8 +39,8 @@ StampsCount =
     (image : ImageView) (t : Topology) (log : List Event) (final : FlatState) → IsRotationRun image t log final
     → (i : ℕ) (e : Event) → slice_get log i ≡ Some e → e.stamp ≡ i + 1
 
--- a report is one: a request and the bytes of an image's file have one exit status, one text and one log
+-- a report is one: a request and the bytes of an image's file have one exit status, one report and one log
 abbrev pub OneReport : Type 0
 OneReport =
-    (q : Request) (bytes : List ℕ) (status status' : ℕ) (text text' : List ℕ) (log log' : List Event)
-    → IsReported q bytes status text log → IsReported q bytes status' text' log' → (status ≡ status') × (text ≡ text') × (log ≡ log')
+    (q : Request) (bytes : List ℕ) (status status' : ℕ) (texts texts' : List (List ℕ)) (log log' : List Event)
+    → IsReported q bytes status texts log → IsReported q bytes status' texts' log' → (status ≡ status') × (texts ≡ texts') × (log ≡ log')

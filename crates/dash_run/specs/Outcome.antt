@@ -1,6 +1,6 @@
 -- What a call of the program owes, and how it may end.
-use Rattle.std.specs.Prelude.{◌≡◌, ℕ, ◌<◌, ◌≤◌, ◌⊎◌, List, [], ◌++◌, length, codes, decimal, Option, Some, None, IfSome, IsSomeAnd}
-use Rattle.dash_base.specs.Outside.{Files, Printed, Appends, AppendsPart, Follows, Rose, last_count}
+use Rattle.std.specs.Prelude.{◌≡◌, ℕ, ◌<◌, ◌≤◌, ◌⊎◌, List, [], ◌∷◌, ◌++◌, length, map, fold, codes, decimal, Option, Some, None, IfSome, IsSomeAnd}
+use Rattle.dash_base.specs.Outside.{Files, Printed, Appends, AppendsPart, Follows, Rose, last_count, Call, load_of, print_on, failed_print_on, with_calls}
 use Rattle.dash_base.specs.Topology.{IsSimple, simple_refusal}
 use Rattle.dash_base.specs.declared.host.Stream.{Stream}
 use Rattle.dash_base.specs.declared.host.Stream.TheVariants as stream
@@ -106,7 +106,7 @@ pub record IsRefused (q : Request) (bytes : List ℕ) (refusal : LoadRefusal) : 
   pub refused : IsFirstRefusal bytes map refusal
 
 -- the topology and an image with these bytes are accepted, and its run in rotation ends with this exit status, report and log
-pub record IsReported (q : Request) (bytes : List ℕ) (status : ℕ) (text : List ℕ) (log : List Event) : Type 0 where
+pub record IsReported (q : Request) (bytes : List ℕ) (status : ℕ) (texts : List (List ℕ)) (log : List Event) : Type 0 where
   pub machine : Topology
   pub map : MemoryMap
   pub is_machine : IsMachine q machine map
@@ -114,7 +114,7 @@ pub record IsReported (q : Request) (bytes : List ℕ) (status : ℕ) (text : Li
   pub state : FlatState
   pub run : IsRotationRun (image_of bytes) machine log state
   pub is_status : status ≡ status_of machine (harts_of machine state)
-  pub is_text : text ≡ report_of machine state log
+  pub is_report : texts ≡ report_of machine state log
 
 -- the image's file is within the limit, and has these bytes where files are told
 pub record IsGiven (files : Option Files) (name bytes : List ℕ) : Type 0 where
@@ -126,42 +126,73 @@ pub record IsTooLarge (files : Option Files) (name : List ℕ) (size : ℕ) : Ty
   pub large : image_limit < size
   pub told : IfSome files (λ file_at. IsSomeAnd (file_at name) (λ bytes. length bytes ≡ size))
 
--- What a call owes, an exit status, one text on one stream and a log, and why. The counts are the host's failed loads, before and after.
-pub data IsOutput (words : List (List ℕ)) (files : Option Files) (before after : ℕ) : ℕ → Stream → List ℕ → List Event → Type 0 where
+-- What a call owes, an exit status, texts on one stream, each for a print, and a log, and why. The counts are the host's failed loads, before and after.
+pub data IsOutput (words : List (List ℕ)) (files : Option Files) (before after : ℕ) : ℕ → Stream → List (List ℕ) → List Event → Type 0 where
   -- the words have no form that is served
-  usage : IsUsageError words → after ≡ before → IsOutput words files before after 2 stream.Err usage_line []
+  usage : IsUsageError words → after ≡ before → IsOutput words files before after 2 stream.Err (usage_line ∷ []) []
   -- the image's file couldn't be read
   failed : (q : Request) → Asks words q → Rose before after
-      → IsOutput words files before after 5 stream.Err (failed_line q.name) []
+      → IsOutput words files before after 5 stream.Err (failed_line q.name ∷ []) []
   -- it is larger than the limit
   large : (q : Request) (size : ℕ) → Asks words q → IsTooLarge files q.name size → after ≡ before
-      → IsOutput words files before after 5 stream.Err (large_line q.name size) []
+      → IsOutput words files before after 5 stream.Err (large_line q.name size ∷ []) []
   -- the topology is refused
   bad_topology : (q : Request) (bytes : List ℕ) (refusal : TopoRefusal) → Asks words q → IsGiven files q.name bytes → IsRefusedTopology q refusal → after ≡ before
-      → IsOutput words files before after 4 stream.Err (topology_line refusal) []
+      → IsOutput words files before after 4 stream.Err (topology_line refusal ∷ []) []
   -- the image is refused
   refused : (q : Request) (bytes : List ℕ) (refusal : LoadRefusal) → Asks words q → IsGiven files q.name bytes → IsRefused q bytes refusal → after ≡ before
-      → IsOutput words files before after 3 stream.Err (refusal_line refusal) []
+      → IsOutput words files before after 3 stream.Err (refusal_line refusal ∷ []) []
   -- its run is reported
-  reported : (q : Request) (bytes : List ℕ) (status : ℕ) (text : List ℕ) (log : List Event) → Asks words q → IsGiven files q.name bytes → IsReported q bytes status text log → after ≡ before
-      → IsOutput words files before after status stream.Out text log
+  reported : (q : Request) (bytes : List ℕ) (status : ℕ) (texts : List (List ℕ)) (log : List Event) → Asks words q → IsGiven files q.name bytes → IsReported q bytes status texts log → after ≡ before
+      → IsOutput words files before after status stream.Out texts log
 
--- a count of a host's faults, or what it had printed, before a call and after it
+-- a count of a host's faults, what it had printed, or the calls that were made of it, before a call and after it
 pub record Change (A : Type 0) : Type 0 where
   pub old : A
   pub new : A
 
+-- texts one after another
+abbrev pub joined : List (List ℕ) → List ℕ
+joined texts = fold ◌++◌ [] texts
+
+-- the loads that a call makes: that of the image, where the words name one
+pub data LoadsOf (words : List (List ℕ)) : List Call → Type 0 where
+  no_load : IsUsageError words → LoadsOf words []
+  one_load : (q : Request) → Asks words q → LoadsOf words (load_of q.name ∷ [])
+
+-- the host's calls were the loads and then a print of each text
+pub record PrintsAll (words : List (List ℕ)) (to : Stream) (texts : List (List ℕ)) (calls : Change (Option (List Call))) : Type 0 where
+  pub loaded : List Call
+  pub are_loads : LoadsOf words loaded
+  pub made : calls.new ≡ with_calls calls.old (loaded ++ map (print_on to) texts)
+
+-- prints of the texts that stand before one, and last a print of that one, which failed
+pub record BreakOff (to : Stream) (texts : List (List ℕ)) (made : List Call) : Type 0 where
+  pub before : List (List ℕ)
+  pub text : List ℕ
+  pub after : List (List ℕ)
+  pub split : texts ≡ before ++ text ∷ after
+  pub made_is : made ≡ map (print_on to) before ++ failed_print_on to text ∷ []
+
+-- the host's calls were the loads and then prints that broke off: nothing came after the one that failed
+pub record PrintsPart (words : List (List ℕ)) (to : Stream) (texts : List (List ℕ)) (calls : Change (Option (List Call))) : Type 0 where
+  pub loaded : List Call
+  pub are_loads : LoadsOf words loaded
+  pub tried : List Call
+  pub breaks_off : BreakOff to texts tried
+  pub made : calls.new ≡ with_calls calls.old (loaded ++ tried)
+
 -- how a call ended, with an exit status and a log
-pub data Ends (words : List (List ℕ)) (files : Option Files) (loads prints : Change ℕ) (printed : Change (Option Printed)) : ℕ → List Event → Type 0 where
+pub data Ends (words : List (List ℕ)) (files : Option Files) (loads prints : Change ℕ) (printed : Change (Option Printed)) (calls : Change (Option (List Call))) : ℕ → List Event → Type 0 where
   -- it printed all that it owes
-  printed_all : (status : ℕ) (to : Stream) (text : List ℕ) (log : List Event) → IsOutput words files loads.old loads.new status to text log
-      → prints.new ≡ prints.old → Follows (Appends to text) printed.old printed.new → Ends words files loads prints printed status log
+  printed_all : (status : ℕ) (to : Stream) (texts : List (List ℕ)) (log : List Event) → IsOutput words files loads.old loads.new status to texts log
+      → prints.new ≡ prints.old → Follows (Appends to (joined texts)) printed.old printed.new → PrintsAll words to texts calls → Ends words files loads prints printed calls status log
   -- a print failed, after a part of it
-  print_failed : (status : ℕ) (to : Stream) (text : List ℕ) (log : List Event) → IsOutput words files loads.old loads.new status to text log
-      → Rose prints.old prints.new → Follows (AppendsPart to text) printed.old printed.new → Ends words files loads prints printed 5 log
+  print_failed : (status : ℕ) (to : Stream) (texts : List (List ℕ)) (log : List Event) → IsOutput words files loads.old loads.new status to texts log
+      → Rose prints.old prints.new → Follows (AppendsPart to (joined texts)) printed.old printed.new → PrintsPart words to texts calls → Ends words files loads prints printed calls 5 log
   -- there was no memory: it printed nothing
   out_of_memory : (q : Request) → Asks words q
-      → prints.new ≡ prints.old → printed.new ≡ printed.old → Ends words files loads prints printed 6 []
+      → prints.new ≡ prints.old → printed.new ≡ printed.old → calls.new ≡ with_calls calls.old (load_of q.name ∷ []) → Ends words files loads prints printed calls 6 []
 
 -- the exit statuses of a run
 abbrev pub IsRunStatus : ℕ → Type 0
@@ -196,8 +227,8 @@ pub record NamesRun (words : List (List ℕ)) (files : Option Files) (status : �
   pub asked : Asks words request
   pub bytes : List ℕ
   pub given : IsGiven files request.name bytes
-  pub text : List ℕ
-  pub reported : IsReported request bytes status text log
+  pub texts : List (List ℕ)
+  pub reported : IsReported request bytes status texts log
 
 -- the words ask for a run whose log is that of a complete sequential run within the budgets
 pub record RunsSequentially (words : List (List ℕ)) (files : Option Files) (log : List Event) : Type 0 where

@@ -1,5 +1,6 @@
 -- What the program has ready to print, as contracts see it.
-use Rattle.std.specs.Prelude.{◌≡◌, ℕ, ◌⊎◌, List, [], ◌++◌, string_bytes}
+use Rattle.std.specs.Prelude.{◌≡◌, ℕ, ◌⊎◌, List, [], ◌∷◌, Option, string_bytes}
+use Rattle.dash_base.specs.Outside.{Call, with_calls}
 use Rattle.dash_base.specs.declared.host.Stream.{Stream}
 use Rattle.dash_base.specs.declared.host.Stream.TheVariants as stream
 use Rattle.dash_base.specs.declared.topology.Topology.{Topology}
@@ -17,7 +18,7 @@ use Rattle.dash_run.specs.declared.output.Output.TheVariants.{Usage, Line, Repor
 use Rattle.dash_run.specs.CommandLine.{Request}
 use Rattle.dash_run.specs.Log.{IsRotationRun}
 use Rattle.dash_run.specs.Report.{report_of, status_of}
-use Rattle.dash_run.specs.Outcome.{usage_line, topology_line, refusal_line, IsRefusedTopology, IsRefused, IsReported}
+use Rattle.dash_run.specs.Outcome.{usage_line, topology_line, refusal_line, IsRefusedTopology, IsRefused, IsReported, LoadsOf, BreakOff}
 
 abbrev pub output_status : Output → ℕ
 output_status Usage = 2
@@ -29,10 +30,11 @@ output_stream Usage = stream.Err
 output_stream (Line status text) = stream.Err
 output_stream (Report status console harts accesses log) = stream.Out
 
-abbrev pub output_text : Output → List ℕ
-output_text Usage = usage_line
-output_text (Line status text) = string_bytes text
-output_text (Report status console harts accesses log) = console.items ++ string_bytes harts ++ string_bytes accesses
+-- one text for each print
+abbrev pub owed_texts : Output → List (List ℕ)
+owed_texts Usage = usage_line ∷ []
+owed_texts (Line status text) = string_bytes text ∷ []
+owed_texts (Report status console harts accesses log) = console.items ∷ string_bytes harts ∷ string_bytes accesses ∷ []
 
 abbrev pub output_log : Output → List Event
 output_log (Report status console harts accesses log) = log.items
@@ -52,24 +54,36 @@ pub record IsRefusalLine (q : Request) (bytes : List ℕ) (status : ℕ) (text :
   pub status_is : status ≡ 3
   pub text_is : text ≡ refusal_line refusal
 
+-- the calls of a host while the image is loaded
+pub record HasLoaded (words : List (List ℕ)) (old new : Option (List Call)) : Type 0 where
+  pub calls : List Call
+  pub are_loads : LoadsOf words calls
+  pub made : new ≡ with_calls old calls
+
+-- the calls of a host while texts are printed, where a print fails
+pub record HasTried (to : Stream) (texts : List (List ℕ)) (old new : Option (List Call)) : Type 0 where
+  pub calls : List Call
+  pub breaks_off : BreakOff to texts calls
+  pub made : new ≡ with_calls old calls
+
 -- what is owed for an image with these bytes
 abbrev pub IsAnswer : Request → List ℕ → Output → Type 0
 IsAnswer q bytes Usage = ⊥
 IsAnswer q bytes (Line status text) = IsTopologyLine q status (string_bytes text) ⊎ IsRefusalLine q bytes status (string_bytes text)
 IsAnswer q bytes (Report status console harts accesses log) =
-    IsReported q bytes status (console.items ++ string_bytes harts ++ string_bytes accesses) log.items
+    IsReported q bytes status (console.items ∷ string_bytes harts ∷ string_bytes accesses ∷ []) log.items
 
 -- the report of an image's run
-pub record IsRunReport (image : ImageView) (t : Topology) (status : ℕ) (text : List ℕ) (log : List Event) : Type 0 where
+pub record IsRunReport (image : ImageView) (t : Topology) (status : ℕ) (texts : List (List ℕ)) (log : List Event) : Type 0 where
   pub state : FlatState
   pub run : IsRotationRun image t log state
   pub is_status : status ≡ status_of t (harts_of t state)
-  pub is_text : text ≡ report_of t state log
+  pub is_report : texts ≡ report_of t state log
 
 -- what is owed is that report
 abbrev pub IsReport : ImageView → Topology → Output → Type 0
 IsReport image t (Report status console harts accesses log) =
-    IsRunReport image t status (console.items ++ string_bytes harts ++ string_bytes accesses) log.items
+    IsRunReport image t status (console.items ∷ string_bytes harts ∷ string_bytes accesses ∷ []) log.items
 IsReport image t _ = ⊥
 
 -- what is owed on a topology that is accepted: the refusal of the image, or its report

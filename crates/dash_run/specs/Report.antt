@@ -144,7 +144,7 @@ unfoldable pub access_section : List Access → List ℕ
 access_section accesses =
     codes "accesses " ++ decimal (length accesses) ++ newline ++ flat_map access_line accesses
 
--- the report of a run that ended in this state with this log
-abbrev pub report_of : Topology → FlatState → List Event → List ℕ
+-- the report of a run that ended in this state with this log: its three sections
+abbrev pub report_of : Topology → FlatState → List Event → List (List ℕ)
 report_of t s log =
-    console_section s.console ++ harts_section t (harts_of t s) ++ access_section (accesses_of log)
+    console_section s.console ∷ harts_section t (harts_of t s) ∷ access_section (accesses_of log) ∷ []

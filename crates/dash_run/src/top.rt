@@ -1,12 +1,12 @@
 //! The top call: from words and a host to a printed report and an exit status.
-ghost use Rattle.std.specs.Prelude.{◌≡◌, ◌<◌, ◌≤◌, ◌⊎◌, ◌++◌, ℕ, List, length, [], IfOk, IsTrue, OnErr, OnOk, map, string_bytes};
+ghost use Rattle.std.specs.Prelude.{◌≡◌, ◌<◌, ◌≤◌, ◌⊎◌, ◌++◌, ◌∷◌, ℕ, List, length, [], IfOk, IsTrue, OnErr, OnOk, map, string_bytes};
 ghost use Rattle.dash_base.specs.declared.host.Stream.TheVariants as stream;
 ghost use Rattle.dash_base.specs.declared.topology.TopoRefusal.{TopoRefusal};
-ghost use Rattle.dash_base.specs.Outside.{Appends, AppendsPart, Follows, Rose};
+ghost use Rattle.dash_base.specs.Outside.{Appends, AppendsPart, Follows, Rose, print_on, with_calls};
 ghost use Rattle.elf_load.specs.declared.refusal.LoadRefusal.{LoadRefusal};
 ghost use Rattle.dash_run.specs.CommandLine.{Request, Asks, IsAsked, IsUsageError};
-ghost use Rattle.dash_run.specs.Outcome.{IsOutput, Ends, IsRefusedTopology, IsRefused, IsAccepted, IsRunStatus, IsFault, IsClean, NamesBadTopology, NamesRefused, NamesRun, RunsSequentially, image_limit};
-ghost use Rattle.dash_run.specs.Output.{output_status, output_stream, output_text, output_log};
+ghost use Rattle.dash_run.specs.Outcome.{IsOutput, Ends, IsRefusedTopology, IsRefused, IsAccepted, IsRunStatus, IsFault, IsClean, NamesBadTopology, NamesRefused, NamesRun, RunsSequentially, image_limit, joined};
+ghost use Rattle.dash_run.specs.Output.{output_status, output_stream, owed_texts, output_log, HasLoaded, HasTried};
 
 use crate::answer::answer;
 use crate::command_line::read_words;
@@ -33,7 +33,8 @@ pub fn dash<H: Host>(alloc: Global, words: &[String], host: &mut H) -> Ended
     ensures outcome { Ends (map string_bytes words.now) (H.files host.old)
         (record { old = H.load_faults host.old; new = H.load_faults host.new })
         (record { old = H.print_faults host.old; new = H.print_faults host.new })
-        (record { old = H.printed host.old; new = H.printed host.new }) result.status result.log.items }
+        (record { old = H.printed host.old; new = H.printed host.new })
+        (record { old = H.calls host.old; new = H.calls host.new }) result.status result.log.items }
 
     // Each status has its cause, over any host.
     ensures usage { result.status ≡ 2 → IsUsageError (map string_bytes words.now) }
@@ -81,7 +82,8 @@ fn carry_out<H: Host>(alloc: Global, words: &[String], host: &mut H) -> Ended
     ensures outcome { Ends (map string_bytes words.now) (H.files host.old)
         (record { old = H.load_faults host.old; new = H.load_faults host.new })
         (record { old = H.print_faults host.old; new = H.print_faults host.new })
-        (record { old = H.printed host.old; new = H.printed host.new }) result.status result.log.items }
+        (record { old = H.printed host.old; new = H.printed host.new })
+        (record { old = H.calls host.old; new = H.calls host.new }) result.status result.log.items }
 {
     match prepare(alloc, words, host) {
         Ok(owed) => match show(host, &owed) {
@@ -104,10 +106,11 @@ fn carry_out<H: Host>(alloc: Global, words: &[String], host: &mut H) -> Ended
 /// Loads the image that the words name, and makes what is to be printed.
 fn prepare<H: Host>(alloc: Global, words: &[String], host: &mut H) -> Result<Output, OutOfMemory>
     requires { (q : Request) → Asks (map string_bytes words.now) q → IsTrue (H.may_load host.old q.name) }
-    ensures owes { IfOk result (λ owed. IsOutput (map string_bytes words.now) (H.files host.old) (H.load_faults host.old) (H.load_faults host.new) (output_status owed) (output_stream owed) (output_text owed) (output_log owed)) }
+    ensures owes { IfOk result (λ owed. IsOutput (map string_bytes words.now) (H.files host.old) (H.load_faults host.old) (H.load_faults host.new) (output_status owed) (output_stream owed) (owed_texts owed) (output_log owed)) }
     ensures memory { OnErr result (IsAsked (map string_bytes words.now)) }
     ensures printed { H.printed host.new ≡ H.printed host.old }
     ensures print_faults { H.print_faults host.new ≡ H.print_faults host.old }
+    ensures calls { HasLoaded (map string_bytes words.now) (H.calls host.old) (H.calls host.new) }
 {
     let Some(command) = read_words(words) else {
         return Ok(Output::Usage);
@@ -128,11 +131,13 @@ fn prepare<H: Host>(alloc: Global, words: &[String], host: &mut H) -> Result<Out
 
 /// Prints what is owed.
 fn show<H: Host>(host: &mut H, owed: &Output) -> Result<(), Failed>
-    ensures ok { OnOk result (Follows (Appends (output_stream owed.now) (output_text owed.now)) (H.printed host.old) (H.printed host.new)) }
-    ensures err { OnErr result (Follows (AppendsPart (output_stream owed.now) (output_text owed.now)) (H.printed host.old) (H.printed host.new)) }
+    ensures ok { OnOk result (Follows (Appends (output_stream owed.now) (joined (owed_texts owed.now))) (H.printed host.old) (H.printed host.new)) }
+    ensures err { OnErr result (Follows (AppendsPart (output_stream owed.now) (joined (owed_texts owed.now))) (H.printed host.old) (H.printed host.new)) }
     ensures failed { OnErr result (Rose (H.print_faults host.old) (H.print_faults host.new)) }
     ensures steady { OnOk result (H.print_faults host.new ≡ H.print_faults host.old) }
     ensures load_faults { H.load_faults host.new ≡ H.load_faults host.old }
+    ensures printed_all { OnOk result (H.calls host.new ≡ with_calls (H.calls host.old) (map (print_on (output_stream owed.now)) (owed_texts owed.now))) }
+    ensures broke_off { OnErr result (HasTried (output_stream owed.now) (owed_texts owed.now) (H.calls host.old) (H.calls host.new)) }
 {
     match owed {
         Output::Usage => host.print(Stream::Err, lines::usage().as_bytes()),
@@ -163,6 +168,8 @@ fn print_three<H: Host>(
     ensures failed { OnErr result (Rose (H.print_faults host.old) (H.print_faults host.new)) }
     ensures steady { OnOk result (H.print_faults host.new ≡ H.print_faults host.old) }
     ensures load_faults { H.load_faults host.new ≡ H.load_faults host.old }
+    ensures printed_all { OnOk result (H.calls host.new ≡ with_calls (H.calls host.old) (map (print_on stream.Out) (first.now ∷ second.now ∷ third.now ∷ []))) }
+    ensures broke_off { OnErr result (HasTried stream.Out (first.now ∷ second.now ∷ third.now ∷ []) (H.calls host.old) (H.calls host.new)) }
 {
     print_both(host, first, second)?;
     host.print(Stream::Out, third)?;
@@ -176,6 +183,8 @@ fn print_both<H: Host>(host: &mut H, first: &[u8], second: &[u8]) -> Result<(), 
     ensures failed { OnErr result (Rose (H.print_faults host.old) (H.print_faults host.new)) }
     ensures steady { OnOk result (H.print_faults host.new ≡ H.print_faults host.old) }
     ensures load_faults { H.load_faults host.new ≡ H.load_faults host.old }
+    ensures printed_all { OnOk result (H.calls host.new ≡ with_calls (H.calls host.old) (map (print_on stream.Out) (first.now ∷ second.now ∷ []))) }
+    ensures broke_off { OnErr result (HasTried stream.Out (first.now ∷ second.now ∷ []) (H.calls host.old) (H.calls host.new)) }
 {
     host.print(Stream::Out, first)?;
     host.print(Stream::Out, second)?;

@@ -1,6 +1,6 @@
 use Rattle.std.proofs.Common.{rules, refl, ap, ◌∙◌, Err}
 use Rattle.dash_base.specs.declared.host.LoadFault.TheVariants.{TooLarge}
-use Rattle.dash_run.proofs.Owing.{answer_owed, told_size}
+use Rattle.dash_run.proofs.Owing.{answer_owed, told_size, loaded_one, loaded_none}
 use Rattle.dash_run.specs.Outcome.{usage, failed, large}
 use Rattle.dash_run.proofs.top.prepare.Goals as goal
 
@@ -25,3 +25,27 @@ pub returns-in_ok-failed-in-Err-Failed-clause-owes : goal.returns-in_ok-failed-i
 returns-in_ok-failed-in-Err-Failed-clause-owes g c =
     let counted = rw c.in-Err-Failed.field-0-is at c.in-Err-Failed.ensures.counted in
     rw c.in_ok-failed-in-Err-Failed.ensures (failed _ c.in-Some.ensures.some counted)
+
+pub returns-in_default-clause-calls : goal.returns-in_default-clause-calls
+returns-in_default-clause-calls g c = loaded_none _ _ c.in_default.ensures.none
+
+pub returns-in_err-answer-in-Ok-clause-calls : goal.returns-in_err-answer-in-Ok-clause-calls
+returns-in_err-answer-in-Ok-clause-calls g c = loaded_one _ _ _ _ c.in-Some.ensures.some c.load.ensures.calls
+
+pub returns-in_err-too_large-in-Err-TooLarge-clause-calls : goal.returns-in_err-too_large-in-Err-TooLarge-clause-calls
+returns-in_err-too_large-in-Err-TooLarge-clause-calls g c = loaded_one _ _ _ _ c.in-Some.ensures.some c.load.ensures.calls
+
+pub returns-in_err-failed-in-Err-Failed-clause-calls : goal.returns-in_err-failed-in-Err-Failed-clause-calls
+returns-in_err-failed-in-Err-Failed-clause-calls g c = loaded_one _ _ _ _ c.in-Some.ensures.some c.load.ensures.calls
+
+pub returns-in_ok-answer-in-Ok-clause-calls : goal.returns-in_ok-answer-in-Ok-clause-calls
+returns-in_ok-answer-in-Ok-clause-calls g c = loaded_one _ _ _ _ c.in-Some.ensures.some c.load.ensures.calls
+
+pub returns-in_ok-too_large-in-Err-TooLarge-clause-calls : goal.returns-in_ok-too_large-in-Err-TooLarge-clause-calls
+returns-in_ok-too_large-in-Err-TooLarge-clause-calls g c = loaded_one _ _ _ _ c.in-Some.ensures.some c.load.ensures.calls
+
+pub returns-in_ok-failed-in-Err-Failed-clause-calls : goal.returns-in_ok-failed-in-Err-Failed-clause-calls
+returns-in_ok-failed-in-Err-Failed-clause-calls g c = loaded_one _ _ _ _ c.in-Some.ensures.some c.load.ensures.calls
+
+pub returns-in-Err-OutOfMemory-clause-calls : goal.returns-in-Err-OutOfMemory-clause-calls
+returns-in-Err-OutOfMemory-clause-calls g c = loaded_one _ _ _ _ c.in-Some.ensures.some c.load.ensures.calls
