@@ -9,3 +9,4 @@ pub mod Causes
 pub mod Converses
 pub mod Turns
 pub mod Runs
+pub mod HostCalls

@@ -5,3 +5,4 @@ pub mod Outcome
 pub mod Output
 pub mod Turns
 pub mod Laws
+pub mod Statuses

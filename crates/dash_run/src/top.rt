@@ -1,11 +1,9 @@
 //! The top call: from words and a host to a printed report and an exit status.
-ghost use Rattle.std.specs.Prelude.{◌≡◌, ◌<◌, ◌≤◌, ◌⊎◌, ◌++◌, ◌∷◌, ℕ, List, length, [], IfOk, IsTrue, OnErr, OnOk, map, string_bytes};
+ghost use Rattle.std.specs.Prelude.{◌≡◌, ◌++◌, ◌∷◌, [], IfOk, IsTrue, OnErr, OnOk, map, string_bytes};
 ghost use Rattle.dash_base.specs.declared.host.Stream.TheVariants as stream;
-ghost use Rattle.dash_base.specs.declared.topology.TopoRefusal.{TopoRefusal};
 ghost use Rattle.dash_base.specs.Outside.{Appends, AppendsPart, Follows, Rose, print_on, with_calls};
-ghost use Rattle.elf_load.specs.declared.refusal.LoadRefusal.{LoadRefusal};
-ghost use Rattle.dash_run.specs.CommandLine.{Request, Asks, IsAsked, IsUsageError};
-ghost use Rattle.dash_run.specs.Outcome.{IsOutput, Ends, IsRefusedTopology, IsRefused, IsAccepted, IsRunStatus, IsFault, IsClean, NamesBadTopology, NamesRefused, NamesRun, RunsSequentially, image_limit, joined};
+ghost use Rattle.dash_run.specs.CommandLine.{Request, Asks, IsAsked};
+ghost use Rattle.dash_run.specs.Outcome.{IsOutput, Ends, IsRunStatus, RunsSequentially, joined};
 ghost use Rattle.dash_run.specs.Output.{output_status, output_stream, owed_texts, output_log, HasLoaded, HasTried};
 
 use crate::answer::answer;
@@ -27,7 +25,9 @@ pub struct Ended {
 
 /// The top call: does what the words ask for, and prints the report or the line that it owes.
 ///
-/// The host may be asked for the image that the words name, and for nothing else.
+/// The host may be asked for the image that the words name, and for nothing else. What follows from
+/// the clause `outcome` are laws of the module `laws`: each status has its cause, each cause its
+/// status, and the host gets no other calls than the load of the image and the prints.
 pub fn dash<H: Host>(alloc: Global, words: &[String], host: &mut H) -> Ended
     requires { (q : Request) → Asks (map string_bytes words.now) q → IsTrue (H.may_load host.old q.name) }
     ensures outcome { Ends (map string_bytes words.now) (H.files host.old)
@@ -36,42 +36,8 @@ pub fn dash<H: Host>(alloc: Global, words: &[String], host: &mut H) -> Ended
         (record { old = H.printed host.old; new = H.printed host.new })
         (record { old = H.calls host.old; new = H.calls host.new }) result.status result.log.items }
 
-    // Each status has its cause, over any host.
-    ensures usage { result.status ≡ 2 → IsUsageError (map string_bytes words.now) }
-    ensures bad_topology { result.status ≡ 4 → NamesBadTopology (map string_bytes words.now) (H.files host.old) }
-    ensures refused { result.status ≡ 3 → NamesRefused (map string_bytes words.now) (H.files host.old) }
-    ensures fault { result.status ≡ 5 → IsFault (map string_bytes words.now) (H.files host.old)
-        (record { old = H.load_faults host.old; new = H.load_faults host.new })
-        (record { old = H.print_faults host.old; new = H.print_faults host.new }) }
-    ensures ran { IsRunStatus result.status → NamesRun (map string_bytes words.now) (H.files host.old) result.status result.log.items }
-    ensures quiet { result.status ≡ 6 → H.printed host.new ≡ H.printed host.old }
-
     // A run is one of the sequential machine, complete and within the budgets.
     ensures sequential { IsRunStatus result.status → RunsSequentially (map string_bytes words.now) (H.files host.old) result.log.items }
-
-    // And each cause has its status, but for want of memory.
-    ensures no_form { IsUsageError (map string_bytes words.now)
-        → (result.status ≡ 2) ⊎ ((result.status ≡ 5) × Rose (H.print_faults host.old) (H.print_faults host.new)) }
-    ensures load_failed { H.load_faults host.old < H.load_faults host.new → (result.status ≡ 5) ⊎ (result.status ≡ 6) }
-    ensures print_failed { H.print_faults host.old < H.print_faults host.new → result.status ≡ 5 }
-    ensures accepted { (q : Request) (bytes : List ℕ) → IsClean (map string_bytes words.now) (H.files host.old)
-        (record { old = H.load_faults host.old; new = H.load_faults host.new })
-        (record { old = H.print_faults host.old; new = H.print_faults host.new }) q bytes
-        → length bytes ≤ image_limit → IsAccepted q bytes → IsRunStatus result.status ⊎ (result.status ≡ 6) }
-    ensures no_topology { (q : Request) (bytes : List ℕ) → IsClean (map string_bytes words.now) (H.files host.old)
-        (record { old = H.load_faults host.old; new = H.load_faults host.new })
-        (record { old = H.print_faults host.old; new = H.print_faults host.new }) q bytes
-        → length bytes ≤ image_limit → (refusal : TopoRefusal) → IsRefusedTopology q refusal
-        → (result.status ≡ 4) ⊎ (result.status ≡ 6) }
-    ensures no_image { (q : Request) (bytes : List ℕ) → IsClean (map string_bytes words.now) (H.files host.old)
-        (record { old = H.load_faults host.old; new = H.load_faults host.new })
-        (record { old = H.print_faults host.old; new = H.print_faults host.new }) q bytes
-        → length bytes ≤ image_limit → (refusal : LoadRefusal) → IsRefused q bytes refusal
-        → (result.status ≡ 3) ⊎ (result.status ≡ 6) }
-    ensures too_large { (q : Request) (bytes : List ℕ) → IsClean (map string_bytes words.now) (H.files host.old)
-        (record { old = H.load_faults host.old; new = H.load_faults host.new })
-        (record { old = H.print_faults host.old; new = H.print_faults host.new }) q bytes
-        → image_limit < length bytes → (result.status ≡ 5) ⊎ (result.status ≡ 6) }
 {
     carry_out(alloc, words, host)
 }
