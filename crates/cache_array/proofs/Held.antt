@@ -1,5 +1,5 @@
 -- What places show as a whole array: copies, room, the other line of an index.
-use Rattle.std.proofs.Common.{◌≡◌, ℕ, ◌<◌, ◌≤◌, ◌%◌, Bool, true, false, not, List, [], ◌∷◌, ◌++◌, length, Option, Some, None, is_some, option_map, find, filter, refl, sym, ap, ◌∙◌, arith, eqb}
+use Rattle.std.proofs.Common.{◌≡◌, ℕ, ◌<◌, ◌%◌, Bool, true, false, not, List, [], ◌∷◌, ◌++◌, length, Option, Some, None, is_some, option_map, find, filter, refl, sym, ap, ◌∙◌, arith, eqb}
 use Rattle.std.specs.Prelude.{MatchOption}
 use Rattle.std.specs.List.{IsDistinct}
 use Rattle.std.proofs.lemmas.Bool.Decides.{nat_tests}
@@ -53,8 +53,8 @@ room_to_add n k ps l a room =
     let few = fewer n (l % n) (filter (λ place. not (is_of l place)) ps) a.some low (distinct-filter n l ps a.apart) (index_free n ps l _ room refl) in
     omega (arith, few, a.room)
 
-pub with_direct : (n k j : ℕ) (ps : List Place) (p : Place) → k ≤ j → AreDirect n k ps → HasRoom (array_of n ps) p.line.0 → AreDirect n j (filter (λ place. not (is_of p.line.0 place)) ps ++ p ∷ [])
-with_direct n k j ps p more a room =
+pub with_direct : (n k j : ℕ) (ps : List Place) (p : Place) → j ≡ k → AreDirect n k ps → HasRoom (array_of n ps) p.line.0 → AreDirect n j (filter (λ place. not (is_of p.line.0 place)) ps ++ p ∷ [])
+with_direct n k j ps p same a room =
     record {
       some = a.some;
       room = omega (arith, a.room);

@@ -1,5 +1,5 @@
 -- The places of an array, each of which has a line and its copy.
-use Rattle.std.specs.Prelude.{◌<◌, ◌≤◌, ℕ, ◌%◌, ◌==◌, Bool, not, ◌&&◌, List, map}
+use Rattle.std.specs.Prelude.{◌≡◌, ◌<◌, ℕ, ◌%◌, ◌==◌, Bool, not, ◌&&◌, List, map}
 use Rattle.std.specs.Ordering.{nat_cmp}
 use Rattle.std.specs.FinMap.{FinMap, from_entries}
 use Rattle.std.specs.List.{IsDistinct}
@@ -32,8 +32,8 @@ entry p = (p.line.0, p.copy)
 unfoldable pub map_of : List Place → FinMap nat_cmp Line
 map_of places = from_entries (map entry places)
 
--- each place has an index of its own, and there is room for a place at each index
+-- each place has an index of its own, and as many places are reserved as there are indexes
 pub record AreDirect (lines capacity : ℕ) (places : List Place) : Type 0 where
   pub some : 0 < lines
-  pub room : lines ≤ capacity
+  pub room : capacity ≡ lines
   pub apart : IsDistinct (λ i j. i == j) (map (index_in lines) places)

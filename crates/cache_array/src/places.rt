@@ -1,5 +1,5 @@
 //! The places of an array: pairs of a line and its copy, in any order.
-ghost use Rattle.std.specs.Prelude.{◌≡◌, ◌<◌, ◌≤◌, ◌++◌, ◌∷◌, [], vec_len, vec_capacity, option_map, find, filter, not};
+ghost use Rattle.std.specs.Prelude.{◌≡◌, ◌<◌, ◌++◌, ◌∷◌, [], vec_len, vec_capacity, option_map, find, filter, not};
 ghost use Rattle.cache_array.specs.Places.{is_of, is_other, line_of, copy_in};
 
 use dash_base::{Line, LineId};
@@ -44,7 +44,7 @@ pub fn remove(places: &mut Vec<Place>, line: LineId)
 pub fn add(places: &mut Vec<Place>, place: Place)
     requires { vec_len places.old < vec_capacity places.old }
     ensures items { places.new.items ≡ places.old.items ++ place ∷ [] }
-    ensures capacity { vec_capacity places.old ≤ vec_capacity places.new }
+    ensures capacity { vec_capacity places.new ≡ vec_capacity places.old }
 {
-    places.push(place).unwrap();
+    places.push_reserved(place);
 }

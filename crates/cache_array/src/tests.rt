@@ -40,7 +40,7 @@ fn random(state: &mut u64) -> u32 {
 
 #[test]
 fn random_calls_meet_a_table_by_line(rt: HostRuntime) -> Result<(), Fail> {
-    for (seed, indexes) in [(1, 1_u32), (2, 4), (3, 5), (4, 16), (5, 64)] {
+    for (seed, indexes) in [(1, 1_u32), (2, 4), (3, 5), (4, 16), (5, 64), (6, 16_384)] {
         let mut state = seed;
         let mut array = Array::new(rt.alloc(), indexes)?;
         let mut plain = Plain {
