@@ -1,4 +1,4 @@
--- The laws.
+-- The bits of an entry are a set, and a message that is served changes one line: the laws of homes, proved.
 use Rattle.std.proofs.Common.{◌≡◌, ◌≢◌, ◌<◌, ℕ, ◌^◌, Bool, true, false, cond, ◌||◌, max, Some, refl, ap, ◌∙◌, arith}
 use Rattle.std.specs.Prelude.{◌==◌}
 use Rattle.std.specs.Int.{bit_at}

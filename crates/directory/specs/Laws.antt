@@ -1,4 +1,4 @@
--- Laws of the definitions.
+-- What the laws of homes say: entries are sets of clusters, and serving a message changes one line.
 use Rattle.std.specs.Prelude.{◌≡◌, ◌≢◌, ℕ, ◌==◌, ◌||◌, Some}
 use Rattle.dash_base.specs.declared.id.LineId.{LineId}
 use Rattle.dash_base.specs.declared.id.ClusterId.{ClusterId}

@@ -1,4 +1,4 @@
--- Laws of the definitions.
+-- What the laws of slots say: a line has one slot, and a message changes that one alone.
 use Rattle.std.specs.Prelude.{◌≡◌, ◌≢◌, ◌<◌, ℕ, true, false, Option, Some, None}
 use Rattle.dash_msg.specs.declared.msg.Msg.{Msg}
 use Rattle.remote_cache.specs.declared.slot.Slot.{Slot}
