@@ -8,7 +8,9 @@ pub mod Steps
 pub mod Contents
 pub mod Rows
 pub mod LineSteps
+pub mod OnNet
 pub mod Bounds
+pub mod Everywhere
 pub mod Along
 pub mod RowsAlong
 pub mod Views

@@ -27,6 +27,7 @@ use Rattle.dash_model.proofs.LineState.{content_after}
 use Rattle.dash_model.proofs.Steps.{Invariant}
 use Rattle.dash_model.proofs.LineSteps.{IsLineMsg, take_step, act_step}
 use Rattle.dash_model.proofs.Bounds.{Bounded, take_bounded, act_bounded}
+use Rattle.dash_model.proofs.Everywhere.{Everywhere, NotNewer, take_keeps, act_not_newer}
 use Rattle.dash_model.proofs.Along.{along, at, AllAre, same_or_not, all_other, on-send-none, on-send-all, on-head, on-tail, on-tail-off, changed, along_still, along_row}
 use Rattle.dash_model.proofs.RowsAlong.{take_sends, act_sends, take_local, act_local}
 use Rattle.dash_model.proofs.Taken.{IsLineRow, take_off_if, take_on_if, case_applies}
@@ -36,6 +37,7 @@ use Rattle.dash_model.proofs.Views.{View, Still, Does, ActsOn, IsNoTake, content
 pub record Holds (w : Config) (l : ℕ) (v : Line) (m : Machine) : Type 0 where
   pub invariant : Invariant (home_of w l) v (along w l m)
   pub bounded : Bounded w.top.clusters (along w l m)
+  pub newest : Everywhere (NotNewer v) (along w l m)
 
 test_false : (x c : ℕ) → x ≢ c → (x == c) ≡ false
 test_false x c n = grind (arith, nat_tests)
@@ -53,7 +55,7 @@ taken_off l c u _ net t h = refl
 off_step : (w : Config) (l : ℕ) (v : Line) (m : Machine) (g : Step) (q : Part) (ss : List Sent) → (e : q.cells l ≡ (m.parts g.event.cluster.0).cells l) → (f : q.homes l ≡ (m.parts g.event.cluster.0).homes l) → AllAre l false ss → on l (less (taken g.event.cluster.0 g.stamp g.event.kind) m.net) ≡ on l m.net → Holds w l v m → (console : List ℕ) → Holds w l v (changed m g.event.cluster.0 q (send (less (taken g.event.cluster.0 g.stamp g.event.kind) m.net) g.event.stamp g.event.cluster.0 ss) console)
 off_step w l v m g q ss e f a n h console =
     let s = along_still w m l g.event.cluster.0 q (send (less (taken g.event.cluster.0 g.stamp g.event.kind) m.net) g.event.stamp g.event.cluster.0 ss) console e f (on-send-none l g.event.stamp g.event.cluster.0 (less (taken g.event.cluster.0 g.stamp g.event.kind) m.net) ss a ∙ n) in
-    record { invariant = subst (Invariant (home_of w l) v) (sym s) h.invariant; bounded = subst (Bounded w.top.clusters) (sym s) h.bounded }
+    record { invariant = subst (Invariant (home_of w l) v) (sym s) h.invariant; bounded = subst (Bounded w.top.clusters) (sym s) h.bounded; newest = subst (Everywhere (NotNewer v)) (sym s) h.newest }
 
 -- an act on the line
 act_on : (w : Config) (l : ℕ) (v : Line) (m : Machine) (g : Step) (q : Part) (ss : List Sent) (a : Act) → ActsOn w g.event.kind (m.parts g.event.cluster.0) q ss l a → on l (less (taken g.event.cluster.0 g.stamp g.event.kind) m.net) ≡ on l m.net → g.event.cluster.0 < w.top.clusters → Holds w l v m → (console : List ℕ) → Holds w l (content_after v a) (changed m g.event.cluster.0 q (send (less (taken g.event.cluster.0 g.stamp g.event.kind) m.net) g.event.stamp g.event.cluster.0 ss) console)
@@ -68,6 +70,7 @@ act_on w l v m g q ss a d n b h console =
     record {
       invariant = subst (Invariant (home_of w l) (content_after v a)) (sym s) (act_step (at w l) (along w l m) v g.event.stamp c a d.may h.invariant);
       bounded = subst (Bounded w.top.clusters) (sym s) (act_bounded w.top.clusters (at w l) (along w l m) g.event.stamp c a b h.bounded);
+      newest = subst (Everywhere (NotNewer (content_after v a))) (sym s) (act_not_newer (at w l) (along w l m) v g.event.stamp c a d.may h.invariant h.newest);
     }
 
 act_off_cells : (A : Type 0) (f : ℕ → A) (k l : ℕ) (x : A) → l ≢ k → upd f k x l ≡ f l
@@ -111,6 +114,7 @@ take_line w l v m t c f u x q console o h d b k =
     record {
       invariant = subst (Invariant (home_of w l) v) (sym s) (take_step (at w l) (along w l m) v t c f u x (line_msg l x o) first k.invariant);
       bounded = subst (Bounded w.top.clusters) (sym s) (take_bounded w.top.clusters (at w l) (along w l m) t c f u x b first k.bounded);
+      newest = subst (Everywhere (NotNewer v)) (sym s) (take_keeps (NotNewer v) (at w l) (along w l m) t c f u x first k.newest);
     }
 
 -- a message that is taken
@@ -122,7 +126,7 @@ take_any w l v m t c f u x d console b e i j h k true o =
 take_any w l v m t c f u x d console b e i j h k false o =
     let a = take_off_if w c f x d (m.parts c) l b o in
     let s = along_still w m l c (record (msg_row_if b w c f x d (m.parts c)).part { last = t }) (send (tail f c (class_of x) m.net) t c (msg_row_if b w c f x d (m.parts c)).sent) console a.cells a.homes (on-send-none l t c (tail f c (class_of x) m.net) (msg_row_if b w c f x d (m.parts c)).sent a.sent ∙ on-tail-off l f c (class_of x) (parcel f c x u) m.net o h) in
-    record { invariant = subst (Invariant (home_of w l) v) (sym s) k.invariant; bounded = subst (Bounded w.top.clusters) (sym s) k.bounded }
+    record { invariant = subst (Invariant (home_of w l) v) (sym s) k.invariant; bounded = subst (Bounded w.top.clusters) (sym s) k.bounded; newest = subst (Everywhere (NotNewer v)) (sym s) k.newest }
 
 take_kind : (w : Config) (l : ℕ) (v : Line) (m : Machine) (t c : ℕ) (f : ClusterId) (x : Msg) (u : ℕ) (d : HartEffect) (console : List ℕ) → l < lines w → c < w.top.clusters → head f.0 c (class_of x) m.net ≡ Some (parcel f.0 c x u) → Holds w l v m → Holds w l v (changed m c (record (row w c (kind.Take f x) d (m.parts c)).part { last = t }) (send (tail f.0 c (class_of x) m.net) t c (row w c (kind.Take f x) d (m.parts c)).sent) (console ++ []))
 unfolding row

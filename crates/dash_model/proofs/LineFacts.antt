@@ -13,11 +13,15 @@ use Rattle.dash_model.specs.Net.{Packet}
 use Rattle.dash_model.specs.OnLine.{one, on, clean, reads, datas, wants, brings, gives_back, leaves, gains, invals, invals_at, counts_to, shares, passes, gains_msg, leaves_msg, passes_msg, invals_msg}
 use Rattle.dash_model.specs.Cell.{Copy, NoCopy, Held, Asked, Poisoned, Came, Refused, Slot, NoSlot, Reads, Owns, Acks, NoAcks, Counting, Expects, Entry, Uncached, SharedBy, Dirty}
 use Rattle.dash_model.specs.Machine.{Machine, Reaches}
-use Rattle.dash_model.specs.LineFacts.{IsOnItsWay, IsCurrent, InMemory, tokens_at, Token, tokens_for, IsOwnedBy, ThereOrComing, Returning, Passed, waiting_slots, IsReading, IsOwning, CountsAdd, HasThing, ByCopy, BySlot, ByData, IsInvalidated, IsMarked, IsCovered, ByToken, ByMark, BySharing, ByInval, LineFacts}
+use Rattle.dash_model.specs.LineFacts.{IsOnItsWay, IsCurrent, InMemory, tokens_at, Token, tokens_for, IsOwnedBy, ThereOrComing, Returning, Passed, waiting_slots, IsReading, IsOwning, CountsAdd, HasThing, ByCopy, BySlot, ByData, IsInvalidated, IsMarked, Carries, NoneIsNewer, IsCovered, ByToken, ByMark, BySharing, ByInval, LineFacts}
 use Rattle.dash_model.proofs.LineState.{State}
 use Rattle.dash_model.proofs.Facts.{Place, AtHome, At, Back, Moving, Facts, Cover, Contents, Counted, counting, own_invals, own_invals_msg, is_reading as slot_reads, holds, at_home, dirty_of, owner_in, marked, things, held, came_read, asked, other, owner_off, came_off, shared_off, read_off, old_brings, old_backs, old_datas, old_brings_msg, old_backs_msg, old_datas_msg, waits_read, waits_own}
 use Rattle.dash_model.proofs.Contents.{off_not, owner_current}
 use Rattle.dash_model.proofs.Steps.{Invariant}
+use Rattle.dash_model.proofs.OnNet.{AllOf}
+use Rattle.dash_model.proofs.Everywhere.{CopyHas, SlotHas, MsgHas, Everywhere, NotNewer}
+use Rattle.dash_model.proofs.Lift.{Holds}
+use Rattle.dash_model.specs.History.{version_of}
 use Rattle.dash_model.proofs.OneToken.{weigh_at, routed, sent_home, not_astray, all_home, pass_home, returning, one_self, one_not, one_token}
 use Rattle.dash_model.proofs.Along.{along, same_or_not}
 use Rattle.dash_model.proofs.Told.{current}
@@ -258,8 +262,32 @@ current_or : (w : Config) (log : List Event) (l : ℕ) (v d : Line) (P : Type 0)
 current_or w log l v d P is (inl e) = inl (subst (IsCurrent w log l) (sym e) is)
 current_or w log l v d P is (inr p) = inr p
 
-pub facts : (w : Config) (log : List Event) (l : ℕ) (v : Line) (m : Machine) → IsCurrent w log l v → Invariant (home_of w l) v (along w l m) → LineFacts w log l m
-facts w log l v m is i = record {
+-- no content is newer
+all_at : (Q : Packet → Type 0) (net : List Packet) (q : Packet) → AllOf Q net → IsOnItsWay q net → Q q
+all_at Q [] q all at = absurd at
+all_at Q (p ∷ ps) q all (inl e) = subst Q (sym e) all.0
+all_at Q (p ∷ ps) q all (inr i) = all_at Q ps q all.1 i
+
+carried_has : (P : Line → Type 0) (m : Msg) (d : Line) → Carries m d → MsgHas P m → P d
+carried_has P (WriteBack l x) d e h = subst P e h
+carried_has P (SharingBack l x r) d e h = subst P e h
+carried_has P (Data l x) d e h = subst P e h
+carried_has P (DataEx l x n) d e h = subst P e h
+carried_has P _ d e h = absurd e
+
+none_is_newer : (w : Config) (log : List Event) (l : ℕ) (v : Line) (m : Machine) → v.version ≡ version_of log l → Everywhere (NotNewer v) (along w l m) → NoneIsNewer w log l m
+none_is_newer w log l v m is e =
+    let at_most : (d : Line) → NotNewer v d → d.version ≤ version_of log l = λ d less. omega arith in
+    record {
+      memory = at_most (along w l m).home.mem e.mem;
+      copies = λ c hs o d at. at_most d (subst (CopyHas (NotNewer v)) at (e.copy c));
+      to_read = λ c n h d at. at_most d (subst (SlotHas (NotNewer v)) at (e.slot c));
+      to_own = λ c n h d at. at_most d (subst (SlotHas (NotNewer v)) at (e.slot c));
+      messages = λ q d at of. at_most d (carried_has (NotNewer v) q.msg d of (all_at (λ p. MsgHas (NotNewer v) p.msg) (on l m.net) q e.net at));
+    }
+
+facts : (w : Config) (log : List Event) (l : ℕ) (v : Line) (m : Machine) → IsCurrent w log l v → Holds w l v m → LineFacts w log l m
+facts w log l v m is known = let i = known.invariant in record {
   token = token w log l v m is i;
   entry = record {
     clean_at_home = clean_home w l m i.place (λ x. (i.known x).facts);
@@ -285,7 +313,8 @@ facts w log l v m is i = record {
     acks = λ q k r at e. epoch_acks (home_of w l) (along w l m) i.place q k r (i.known r.0).facts at e;
     others = λ q k r at e. epoch_others (home_of w l) (along w l m) i.place q k r (i.known r.0).facts at e;
   };
+  newest = none_is_newer w log l v m is.version known.newest;
 }
 
 pub runs_keep_lines : (w : Config) (log : List Event) (m : Machine) (l : ℕ) → l < lines w → Reaches w log m → LineFacts w log l m
-runs_keep_lines w log m l i r = let k = each_reached w log m l i r in facts w log l k.content m (current w log l k.content k.told) k.holds.invariant
+runs_keep_lines w log m l i r = let k = each_reached w log m l i r in facts w log l k.content m (current w log l k.content k.told) k.holds

@@ -16,6 +16,7 @@ use Rattle.dash_model.proofs.SameLine.{same-self}
 use Rattle.dash_model.proofs.Facts.{AtHome, Facts, Contents, owner_off, came_off}
 use Rattle.dash_model.proofs.Contents.{off_not}
 use Rattle.dash_model.proofs.Bounds.{Bounded}
+use Rattle.dash_model.proofs.Everywhere.{Everywhere, NotNewer}
 use Rattle.dash_model.proofs.Along.{along}
 use Rattle.dash_model.proofs.Views.{content_by}
 use Rattle.dash_model.proofs.Lift.{Holds, keeps_line}
@@ -40,10 +41,15 @@ opening_bounded : (w : Config) (l : ℕ) → Bounded w.top.clusters (along w l (
 unfolding on
 opening_bounded w l = record { net = tt; entry = tt; acks = λ x. tt }
 
+opening_newest : (w : Config) (l : ℕ) → Everywhere (NotNewer (opening_line w l)) (along w l (opening w))
+unfolding on
+opening_newest w l = record { net = tt; mem = omega arith; copy = λ x. tt; slot = λ x. tt }
+
 opening_holds : (w : Config) (l : ℕ) → Holds w l (opening_line w l) (opening w)
 opening_holds w l = record {
   invariant = record { place = AtHome; known = λ x. record { facts = opening_facts w l x; covered = inr (inl refl); contents = opening_contents w l x } };
   bounded = opening_bounded w l;
+  newest = opening_newest w l;
 }
 
 -- line l in a state that a run of this log reached

@@ -176,6 +176,22 @@ pub record OneEpoch (w : Config) (l : ℕ) (m : Machine) : Type 0 where
   pub acks : (q : Packet) (k : LineId) (r : ClusterId) → IsOnItsWay q (on l m.net) → q.msg ≡ Inval k r → (cell_at l m r.0).acks ≢ NoAcks
   pub others : (q : Packet) (k : LineId) (r : ClusterId) → IsOnItsWay q (on l m.net) → q.msg ≡ Inval k r → q.dst ≢ r.0
 
+-- a message carries this content
+abbrev pub Carries : Msg → Line → Type 0
+Carries (WriteBack l d) e = d ≡ e
+Carries (SharingBack l d r) e = d ≡ e
+Carries (Data l d) e = d ≡ e
+Carries (DataEx l d count) e = d ≡ e
+Carries msg e = ⊥
+
+-- no content of the line is of a version that is yet to come: in the home's memory, in copies, in slots, and on its way
+pub record NoneIsNewer (w : Config) (log : List Event) (l : ℕ) (m : Machine) : Type 0 where
+  pub memory : (home_at w l m).mem.version ≤ version_of log l
+  pub copies : (c : ℕ) (hs : List ℕ) (o : Option ℕ) (d : Line) → (cell_at l m c).copy ≡ Held hs o d → d.version ≤ version_of log l
+  pub to_read : (c n h : ℕ) (d : Line) → (cell_at l m c).slot ≡ Reads n h (Came d) → d.version ≤ version_of log l
+  pub to_own : (c n h : ℕ) (d : Line) → (cell_at l m c).slot ≡ Owns n h (Came d) → d.version ≤ version_of log l
+  pub messages : (q : Packet) (d : Line) → IsOnItsWay q (on l m.net) → Carries q.msg d → d.version ≤ version_of log l
+
 -- the facts of line l after a log
 pub record LineFacts (w : Config) (log : List Event) (l : ℕ) (m : Machine) : Type 0 where
   pub token : Token w log l m
@@ -186,6 +202,7 @@ pub record LineFacts (w : Config) (log : List Event) (l : ℕ) (m : Machine) : T
   pub stale : (c : ℕ) → StaleIsInvalidated w log l m c
   pub coverage : (c : ℕ) → HasThing l m c → IsCovered w l m c
   pub one_epoch : OneEpoch w l m
+  pub newest : NoneIsNewer w log l m
 
 -- every run keeps them, of each line of memory
 abbrev pub RunsKeepLines : Type 0
