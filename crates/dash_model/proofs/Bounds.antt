@@ -1,5 +1,5 @@
 -- Clusters that are named exist, and no more acknowledgements are announced than there are clusters.
-use Rattle.std.proofs.Common.{◌≡◌, ◌⊎◌, ℕ, suc, ◌+◌, ◌≤◌, ◌<◌, ◌==◌, ◌&&◌, Bool, true, false, not, cond, nat_lt, Some, List, [], ◌∷◌, ◌++◌, length, map, refl, subst, inl, inr, arith}
+use Rattle.std.proofs.Common.{◌≡◌, ◌⊎◌, ℕ, suc, ◌+◌, ◌≤◌, ◌<◌, ◌==◌, ◌&&◌, Bool, true, false, not, cond, nat_lt, Some, List, [], ◌∷◌, ◌++◌, length, refl, inl, inr, arith}
 use Rattle.std.proofs.lemmas.Bool.Decides.{nat_tests}
 use Rattle.dash_base.specs.declared.line.Line.{Line}
 use Rattle.dash_base.specs.declared.id.LineId.{LineId}
@@ -9,7 +9,7 @@ use Rattle.dash_msg.specs.declared.msg.Msg.{Msg}
 use Rattle.dash_msg.specs.declared.msg.Msg.TheVariants.{Read, ReadEx, FwdRead, FwdReadEx, Inval, WriteBack, SharingBack, Transfer, Data, DataEx, Ack, TransferAck, Nak}
 use Rattle.dash_msg.specs.declared.parcel.Sent.{Sent}
 use Rattle.dash_model.specs.Maps.{weigh, without, with_member}
-use Rattle.dash_model.specs.Net.{Packet, packet, parcel, in_lane, head, tail, send, to}
+use Rattle.dash_model.specs.Net.{Packet, packet, parcel, head, tail, to}
 use Rattle.dash_model.specs.Cell.{Copy, Held, Asked, Poisoned, Came, Refused, Slot, Reads, Owns, Acks, NoAcks, Counting, Expects, Entry, Uncached, SharedBy, Dirty, Cell, Home}
 use Rattle.dash_model.specs.LineEffect.{LineEffect, still}
 use Rattle.dash_model.specs.Replies.{nak_acks, counted, expecting, expecting_for}
@@ -19,6 +19,7 @@ use Rattle.dash_model.specs.LineRows.{take_row}
 use Rattle.dash_model.specs.OnLine.{brings_msg, counts_to_msg, brings, counts_to}
 use Rattle.dash_model.proofs.LineState.{State, Where, Acts, Takes, apply, after}
 use Rattle.dash_model.proofs.Weigh.{weigh-only}
+use Rattle.dash_model.proofs.OnNet.{AllOf, AllSent, all-head, all-tail, all-send}
 use Rattle.dash_model.proofs.Rows.{brings_counts}
 
 -- a rising list of numbers from lo on, below n
@@ -60,13 +61,11 @@ Named n (Transfer l r) = r.0 < n
 Named n (DataEx l d count) = count ≤ n
 Named n m = Unit {0}
 
-abbrev pub AllNamed : ℕ → List Packet → Type 0
-AllNamed n [] = Unit {0}
-AllNamed n (p ∷ ps) = ((p.src < n) × Named n p.msg) × AllNamed n ps
+abbrev pub PacketNamed : ℕ → Packet → Type 0
+PacketNamed n p = (p.src < n) × Named n p.msg
 
 abbrev pub SentNamed : ℕ → List Sent → Type 0
-SentNamed n [] = Unit {0}
-SentNamed n (x ∷ xs) = Named n x.msg × SentNamed n xs
+SentNamed n = AllSent (λ x. Named n x.msg)
 
 abbrev pub EntryBounded : ℕ → Entry → Type 0
 EntryBounded n (SharedBy cs) = Strict 0 n cs
@@ -77,7 +76,7 @@ AcksBounded n (Expects m g o) = m ≤ n
 AcksBounded n a = Unit {0}
 
 pub record Bounded (n : ℕ) (s : State) : Type 0 where
-  pub net : AllNamed n s.net
+  pub net : AllOf (PacketNamed n) s.net
   pub entry : EntryBounded n s.home.entry
   pub acks : (x : ℕ) → AcksBounded n (s.cells x).acks
 
@@ -87,36 +86,12 @@ pub record DidBounded (n : ℕ) (d : LineEffect) : Type 0 where
   pub acks : AcksBounded n d.cell.acks
 
 -- lists of messages
-head_cases : (n a b : ℕ) (k : Class) (q p : Packet) (ps : List Packet) (i : Bool) → cond i (Some p) (head a b k ps) ≡ Some q
-    → (p.src < n) × Named n p.msg → (head a b k ps ≡ Some q → (q.src < n) × Named n q.msg) → (q.src < n) × Named n q.msg
-head_cases n a b k q p ps true e h ih = let r : p ≡ q = cc in subst (λ p. (p.src < n) × Named n p.msg) r h
-head_cases n a b k q p ps false e h ih = ih e
+pub named-head : (n a b : ℕ) (k : Class) (q : Packet) (net : List Packet) → AllOf (PacketNamed n) net → head a b k net ≡ Some q → PacketNamed n q
+named-head n = all-head (PacketNamed n)
 
-pub named-head : (n a b : ℕ) (k : Class) (q : Packet) (net : List Packet) → AllNamed n net → head a b k net ≡ Some q → (q.src < n) × Named n q.msg
-unfolding head
-named-head n a b k q [] h e = absurd (cc)
-named-head n a b k q (p ∷ ps) h e = head_cases n a b k q p ps (in_lane a b k p) e h.0 (named-head n a b k q ps h.1)
-
-tail_cases : (n : ℕ) (p : Packet) (ps ts : List Packet) (i : Bool) → AllNamed n (p ∷ ps) → AllNamed n ts → AllNamed n (cond i ps (p ∷ ts))
-tail_cases n p ps ts true h t = h.1
-tail_cases n p ps ts false h t = (h.0, t)
-
-named-tail : (n a b : ℕ) (k : Class) (net : List Packet) → AllNamed n net → AllNamed n (tail a b k net)
-unfolding tail
-named-tail n a b k [] h = tt
-named-tail n a b k (p ∷ ps) h = tail_cases n p ps (tail a b k ps) (in_lane a b k p) h (named-tail n a b k ps h.1)
-
-named-append : (n : ℕ) (xs ys : List Packet) → AllNamed n xs → AllNamed n ys → AllNamed n (xs ++ ys)
-named-append n [] ys h k = k
-named-append n (x ∷ xs) ys h k = (h.0, named-append n xs ys h.1 k)
-
-named-sent : (n t a : ℕ) (xs : List Sent) → a < n → SentNamed n xs → AllNamed n (map (packet t a) xs)
+named-sent : (n t a : ℕ) (xs : List Sent) → a < n → SentNamed n xs → AllSent (λ x. PacketNamed n (packet t a x)) xs
 named-sent n t a [] l h = tt
 named-sent n t a (x ∷ xs) l h = ((l, h.0), named-sent n t a xs l h.1)
-
-named-send : (n t a : ℕ) (net : List Packet) (xs : List Sent) → a < n → AllNamed n net → SentNamed n xs → AllNamed n (send net t a xs)
-unfolding send
-named-send n t a net xs l h k = named-append n net (map (packet t a) xs) h (named-sent n t a xs l k)
 
 sent-invals : (n : ℕ) (l : LineId) (r : ℕ) (cs : List ℕ) (m : Msg) (c : ℕ) → r < n → Named n m → SentNamed n (invals_to l r cs ++ (to c m ∷ []))
 unfolding invals_to
@@ -253,10 +228,10 @@ acks_if : (n : ℕ) (a b : Cell) (i : Bool) → AcksBounded n a.acks → AcksBou
 acks_if n a b true h k = h
 acks_if n a b false h k = k
 
-apply_bound : (n i c : ℕ) (d : LineEffect) (net : List Packet) (s : State) → c < n → DidBounded n d → AllNamed n net → Bounded n s
+apply_bound : (n i c : ℕ) (d : LineEffect) (net : List Packet) (s : State) → c < n → DidBounded n d → AllOf (PacketNamed n) net → Bounded n s
     → Bounded n (apply i c d net s)
 apply_bound n i c d net s l h k b = record {
-  net = named-send n i c net d.sent l k h.sent;
+  net = all-send (PacketNamed n) i c net d.sent k (named-sent n i c d.sent l h.sent);
   entry = h.entry;
   acks = λ x. acks_if n d.cell (s.cells x) (x == c) h.acks (b.acks x);
 }
@@ -265,7 +240,7 @@ pub take_bounded : (n : ℕ) (w : Where) (s : State) (i c f u : ℕ) (m : Msg) �
     → Bounded n (after w s (Takes i c f m))
 take_bounded n w s i c f u m l first b =
     let q = named-head n f c (class_of m) (parcel f c m u) s.net b.net first in
-    apply_bound n i c (take_row w.k w.home c f m (s.cells c) s.home) (tail f c (class_of m) s.net) s l (take_bound n w.k w.home c f m (s.cells c) s.home q.0 q.1 b.entry (b.acks c)) (named-tail n f c (class_of m) s.net b.net) b
+    apply_bound n i c (take_row w.k w.home c f m (s.cells c) s.home) (tail f c (class_of m) s.net) s l (take_bound n w.k w.home c f m (s.cells c) s.home q.0 q.1 b.entry (b.acks c)) (all-tail (PacketNamed n) f c (class_of m) s.net b.net) b
 
 pub act_bounded : (n : ℕ) (w : Where) (s : State) (i c : ℕ) (a : Act) → c < n → Bounded n s → Bounded n (after w s (Acts i c a))
 act_bounded n w s i c a l b =
@@ -286,7 +261,7 @@ announced_by : (n x : ℕ) (p : Packet) (ps : List Packet) → ((brings x p ≡ 
 announced_by n x p ps (inl e) l ih none = let a = e.0 in let b = e.1 in let c = ih (omega arith) in omega arith
 announced_by n x p ps (inr e) l ih none = let a = e.0 in let b = e.1 in let c = none (omega arith) in omega arith
 
-pub announced : (n x : ℕ) (net : List Packet) → AllNamed n net → weigh (brings x) net ≤ 1 → weigh (counts_to x) net ≤ n
+pub announced : (n x : ℕ) (net : List Packet) → AllOf (PacketNamed n) net → weigh (brings x) net ≤ 1 → weigh (counts_to x) net ≤ n
 unfolding weigh
 announced n x [] h l = omega arith
 announced n x (p ∷ ps) h l = announced_by n x p ps (one_count n x p.src p.dst p.msg h.0.1) l (announced n x ps h.1) (none_counts x ps)
