@@ -27,16 +27,18 @@ use Rattle.dash_model.proofs.Buffers.{buffer_is, store_retires}
 use Rattle.dash_model.proofs.Stores.{rises}
 use Rattle.dash_model.proofs.BufferFacts.{not_mine, buffers_hold_uncommitted_stores}
 
--- 1 where an atomic operation of hart h commits; where an event makes a version for h; and where h retires what it writes
+-- 1 where an atomic operation of hart h commits
 abbrev pub swaps : ℕ → Kind → ℕ
 swaps h (kind.Rmw a k v) = one a.hart.0 h
 swaps h e = 0
 
+-- 1 where hart h makes a version
 abbrev pub makes : ℕ → Kind → ℕ
 makes h (kind.Commit g n k v) = one g.0 h
 makes h (kind.Rmw a k v) = one a.hart.0 h
 makes h e = 0
 
+-- 1 where hart h retires an instruction that makes one, now or later
 abbrev pub spends : ℕ → Kind → ℕ
 spends h (kind.Store a) = one a.hart.0 h
 spends h (kind.Rmw a k v) = one a.hart.0 h
@@ -111,6 +113,7 @@ spent_more w log e h s t k old =
     let had = old.budget in
     record { retired = omega arith; budget = grind arith }
 
+-- what it spent, in a state of the machine
 abbrev pub SpentIn : Config → List Event → ℕ → Machine → Type 0
 SpentIn w log h m = Spent w log h ((m.parts (cluster_of w h)).harts h).core
 

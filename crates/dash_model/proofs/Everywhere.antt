@@ -20,15 +20,18 @@ use Rattle.dash_model.proofs.Contents.{off_not}
 use Rattle.dash_model.proofs.Steps.{Invariant}
 use Rattle.dash_model.proofs.OnNet.{AllOf, AllSent, all-head, all-tail, all-send}
 
+-- the content of a copy has P
 abbrev pub CopyHas : (Line → Type 0) → Copy → Type 0
 CopyHas P NoCopy = Unit {0}
 CopyHas P (Held hs o d) = P d
 
+-- the content that came to a slot has P
 abbrev pub SlotHas : (Line → Type 0) → Slot → Type 0
 SlotHas P (Reads n t (Came d)) = P d
 SlotHas P (Owns n t (Came d)) = P d
 SlotHas P s = Unit {0}
 
+-- the content that a message carries has P
 abbrev pub MsgHas : (Line → Type 0) → Msg → Type 0
 MsgHas P (WriteBack l d) = P d
 MsgHas P (SharingBack l d r) = P d
@@ -36,13 +39,14 @@ MsgHas P (Data l d) = P d
 MsgHas P (DataEx l d n) = P d
 MsgHas P m = Unit {0}
 
--- each content in a state, and each that a row leaves
+-- each content in a state has P
 pub record Everywhere (P : Line → Type 0) (s : State) : Type 0 where
   pub net : AllOf (λ p. MsgHas P p.msg) s.net
   pub mem : P s.home.mem
   pub copy : (x : ℕ) → CopyHas P (s.cells x).copy
   pub slot : (x : ℕ) → SlotHas P (s.cells x).slot
 
+-- each content that a row leaves or sends has P
 pub record DidHas (P : Line → Type 0) (d : LineEffect) : Type 0 where
   pub sent : AllSent (λ x. MsgHas P x.msg) d.sent
   pub mem : P d.home.mem

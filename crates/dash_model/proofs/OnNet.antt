@@ -4,11 +4,12 @@ use Rattle.dash_msg.specs.declared.classes.Class.{Class}
 use Rattle.dash_msg.specs.declared.parcel.Sent.{Sent}
 use Rattle.dash_model.specs.Net.{Packet, packet, in_lane, head, tail, send}
 
--- each message on its way, and each that is sent
+-- each message on its way has Q
 abbrev pub AllOf : (Packet → Type 0) → List Packet → Type 0
 AllOf Q [] = Unit {0}
 AllOf Q (p ∷ ps) = Q p × AllOf Q ps
 
+-- each that is sent has Q
 abbrev pub AllSent : (Sent → Type 0) → List Sent → Type 0
 AllSent Q [] = Unit {0}
 AllSent Q (x ∷ xs) = Q x × AllSent Q xs

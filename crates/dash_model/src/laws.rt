@@ -16,8 +16,8 @@ ghost use Rattle.dash_model.specs.TableMessages.{RowsOfMessages};
 /// Every run keeps the facts of each line of memory: one token, whose content is by the log the current
 /// one, in its version and in each word; an entry that knows where it is; messages that go to the home, or
 /// come from it, as their kinds do; one answer to each request; exact counts of acknowledgements; an
-/// invalidation on its way to whatever is stale; each cluster with a copy covered by the home; and one
-/// epoch of invalidations at a time.
+/// invalidation on its way to whatever is stale; each cluster with a copy covered by the home; one epoch of
+/// invalidations at a time; and nowhere a version that the log has not committed.
 pub fn runs_keep_lines()
     ensures { RunsKeepLines }
 {}
