@@ -1,8 +1,8 @@
 -- What a hart commits it has retired, within its budget; so the commits of a line are no more than all harts may retire.
-use Rattle.std.proofs.Common.{◌≡◌, ◌≢◌, ℕ, zero, suc, ◌+◌, ◌*◌, ◌/◌, ◌≤◌, ◌<◌, ◌==◌, Bool, true, false, cond, List, [], ◌∷◌, ◌++◌, length, map, if◌then◌else◌, append-nil, refl, sym, ap, ◌∙◌, subst, inl, inr, arith}
+use Rattle.std.proofs.Common.{◌≡◌, ◌≢◌, ℕ, zero, suc, ◌+◌, ◌*◌, ◌/◌, ◌≤◌, ◌<◌, ◌==◌, Bool, true, false, cond, List, [], ◌∷◌, ◌++◌, length, map, if◌then◌else◌, refl, ap, ◌∙◌, subst, inl, inr, arith}
 use Rattle.std.proofs.Math.Nat.{mul-le-mul_left}
 use Rattle.std.proofs.lemmas.Bool.Decides.{nat_tests}
-use Rattle.std.proofs.lemmas.List.{append_assoc, length-append, length-map}
+use Rattle.std.proofs.lemmas.List.{length-append, length-map}
 use Rattle.dash_base.specs.declared.id.LineId.{LineId}
 use Rattle.dash_event.specs.declared.access.Access.{Access}
 use Rattle.dash_event.specs.declared.event.Event.{Event}
@@ -20,9 +20,10 @@ use Rattle.dash_model.specs.HartRows.{HartEffect, cleared, entry_of, rmw_reserve
 use Rattle.dash_model.specs.Guard.{Guard}
 use Rattle.dash_model.specs.Row.{row}
 use Rattle.dash_model.specs.Log.{commit_in, commits_of}
-use Rattle.dash_model.specs.Machine.{Machine, Step, event_of, part_after, after, opening, AreSteps, state_after, IsRun}
+use Rattle.dash_model.specs.Machine.{Machine, Step, event_of, after, opening, AreSteps, state_after, IsRun, Reaches}
 use Rattle.dash_model.specs.BufferFacts.{store_by, stores_by, commit_by, commits_by}
 use Rattle.dash_model.proofs.Along.{same_or_not}
+use Rattle.dash_model.proofs.HartRuns.{hart_at, IsKept, reached_keeps}
 use Rattle.dash_model.proofs.Buffers.{buffer_is, store_retires}
 use Rattle.dash_model.proofs.Stores.{rises}
 use Rattle.dash_model.proofs.BufferFacts.{not_mine, buffers_hold_uncommitted_stores}
@@ -113,28 +114,17 @@ spent_more w log e h s t k old =
     let had = old.budget in
     record { retired = omega arith; budget = grind arith }
 
--- what it spent, in a state of the machine
-abbrev pub SpentIn : Config → List Event → ℕ → Machine → Type 0
-SpentIn w log h m = Spent w log h ((m.parts (cluster_of w h)).harts h).core
+-- the same of a hart
+abbrev pub SpentAt : Config → List Event → ℕ → Processor → Type 0
+SpentAt w log h s = Spent w log h s.core
 
-spent_step : (w : Config) (log : List Event) (e : Event) (h c : ℕ) (m : Machine) (d : HartEffect) (q : Part) (b : Bool) → (cluster_of w h == c) ≡ b → Guard w c e.kind d (m.parts c) → q.harts ≡ (row w c e.kind d (m.parts c)).part.harts → SpentIn w log h m → Spent w (log ++ e ∷ []) h ((cond b q (m.parts (cluster_of w h))).harts h).core
-spent_step w log e h c m d q true is can harts k =
-    let same : cluster_of w h ≡ c = grind (arith, nat_tests) in
-    subst (λ z. Spent w (log ++ e ∷ []) h (z h).core) (sym harts) (spent_more w log e h ((m.parts c).harts h).core ((row w c e.kind d (m.parts c)).part.harts h).core (spends_by w c e.kind d (m.parts c) h can) (subst (λ z. Spent w log h ((m.parts z).harts h).core) same k))
-spent_step w log e h c m d q false is can harts k =
-    let other : cluster_of w h ≢ c = λ same. (let yes : (cluster_of w h == c) ≡ true = grind (arith, nat_tests) in absurd (cc)) in
-    let s = ((m.parts (cluster_of w h)).harts h).core in
-    let none = spends_none w c e.kind d (m.parts c) h other can in
-    spent_more w log e h s s (record { retired = omega arith; within = λ some. absurd (omega arith) }) k
+spent_kept : (w : Config) → IsKept w (SpentAt w)
+spent_kept w = record {
+  own = λ c log e d p h can k. spent_more w log e h (p.harts h).core ((row w c e.kind d p).part.harts h).core (spends_by w c e.kind d p h can) k;
+  other = λ c log e d p h s other can k. let none = spends_none w c e.kind d p h other can in spent_more w log e h s.core s.core (record { retired = omega arith; within = λ some. absurd (omega arith) }) k;
+}
 
-steps_spend : (w : Config) (log : List Event) (h : ℕ) (m : Machine) (gs : List Step) → AreSteps w m gs → SpentIn w log h m → SpentIn w (log ++ map event_of gs) h (state_after w m gs)
-steps_spend w log h m [] s k = subst (λ es. SpentIn w es h m) (sym (append-nil log)) k
-steps_spend w log h m (g ∷ gs) s k =
-    let c = g.event.cluster.0 in
-    let next = spent_step w log g.event h c m g.done (part_after w c g (m.parts c)) (cluster_of w h == c) refl s.0.steps.guard refl k in
-    subst (λ es. SpentIn w es h (state_after w (after w m g) gs)) (append_assoc log (g.event ∷ []) (map event_of gs)) (steps_spend w (log ++ g.event ∷ []) h (after w m g) gs s.1 next)
-
-opening_spent : (w : Config) (h : ℕ) → SpentIn w [] h (opening w)
+opening_spent : (w : Config) (h : ℕ) → SpentAt w [] h (hart_at w (opening w) h)
 unfolding weigh
 opening_spent w h = record { retired = omega arith; budget = omega arith }
 
@@ -174,8 +164,10 @@ spends_often h (e ∷ es) =
 -- a hart makes no more versions than its budget
 hart_makes : (w : Config) (log : List Event) (h : ℕ) → IsRun w log → often (makes h) log ≤ w.top.budget
 hart_makes w log h r =
-    let buffers = buffers_hold_uncommitted_stores w log (state_after w (opening w) r.steps) h (record { run = r; state = refl }) in
-    let spent = (subst (λ es. SpentIn w es h (state_after w (opening w) r.steps)) r.events (steps_spend w [] h (opening w) r.steps r.happen (opening_spent w h))).budget in
+    let m = state_after w (opening w) r.steps in
+    let reached : Reaches w log m = record { run = r; state = refl } in
+    let buffers = buffers_hold_uncommitted_stores w log m h reached in
+    let spent = (reached_keeps w (SpentAt w) (spent_kept w) log m reached h (opening_spent w h)).budget in
     let made = makes_often h log in
     let paid = spends_often h log in
     let stores : length (stores_by h log) ≡ length buffers.committed + length buffers.waiting = ap length buffers.stores ∙ length-append buffers.committed buffers.waiting in

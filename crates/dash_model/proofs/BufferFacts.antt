@@ -15,10 +15,11 @@ use Rattle.dash_model.specs.Part.{Processor, Part}
 use Rattle.dash_model.specs.HartRows.{HartEffect, entry_of, cleared, commit_row}
 use Rattle.dash_model.specs.Guard.{Guard}
 use Rattle.dash_model.specs.Row.{row}
-use Rattle.dash_model.specs.Machine.{Machine, Step, event_of, part_after, after, opening, AreSteps, state_after, Reaches}
+use Rattle.dash_model.specs.Machine.{Machine, Reaches}
 use Rattle.dash_model.specs.BufferFacts.{store_by, stores_by, commit_by, commits_by, BufferFacts}
 use Rattle.dash_model.proofs.Along.{same_or_not}
 use Rattle.dash_model.proofs.Buffers.{buffer_is, kept_else}
+use Rattle.dash_model.proofs.HartRuns.{hart_at, IsKept, reached_keeps}
 
 -- a hart's stores by the log, where this is in its buffer
 pub record Waits (log : List Event) (h : ℕ) (b : List Stored) : Type 0 where
@@ -133,30 +134,18 @@ unfolding Guard
 no_commit w c (kind.Commit g n k v) d p h other can = ap (λ b. if b then n ∷ [] else []) (not_mine w c g.0 h can.mine other)
 no_commit w c _ d p h other can = refl
 
--- the hart's part after a step
-step_by : (w : Config) (log : List Event) (e : Event) (h c : ℕ) (m : Machine) (d : HartEffect) (q : Part) (b : Bool) → (cluster_of w h == c) ≡ b → Guard w c e.kind d (m.parts c) → q.harts ≡ (row w c e.kind d (m.parts c)).part.harts → Waits log h ((m.parts (cluster_of w h)).harts h).buffer → Waits (log ++ e ∷ []) h ((cond b q (m.parts (cluster_of w h))).harts h).buffer
-step_by w log e h c m d q true is can harts k =
-    let same : cluster_of w h ≡ c = grind (arith, nat_tests) in
-    subst (λ z. Waits (log ++ e ∷ []) h (z h).buffer) (sym harts) (waits_by log e h ((m.parts c).harts h).buffer ((row w c e.kind d (m.parts c)).part.harts h).buffer (effect w c e.kind d (m.parts c) h can) (subst (λ z. Waits log h ((m.parts z).harts h).buffer) same k))
-step_by w log e h c m d q false is can harts k =
-    let other : cluster_of w h ≢ c = λ same. (let yes : (cluster_of w h == c) ≡ true = grind (arith, nat_tests) in absurd (cc)) in
-    same_waits log e h ((m.parts (cluster_of w h)).harts h).buffer ((m.parts (cluster_of w h)).harts h).buffer (no_store w c e.kind d (m.parts c) h other can) (no_commit w c e.kind d (m.parts c) h other can) refl k
+-- a hart's stores by the log
+abbrev pub WaitsAt : List Event → ℕ → Processor → Type 0
+WaitsAt log h s = Waits log h s.buffer
 
-abbrev pub WaitsIn : Config → List Event → ℕ → Machine → Type 0
-WaitsIn w log h m = Waits log h ((m.parts (cluster_of w h)).harts h).buffer
+waits_kept : (w : Config) → IsKept w WaitsAt
+waits_kept w = record {
+  own = λ c log e d p h can k. waits_by log e h (p.harts h).buffer ((row w c e.kind d p).part.harts h).buffer (effect w c e.kind d p h can) k;
+  other = λ c log e d p h s other can k. same_waits log e h s.buffer s.buffer (no_store w c e.kind d p h other can) (no_commit w c e.kind d p h other can) refl k;
+}
 
-steps_wait : (w : Config) (log : List Event) (h : ℕ) (m : Machine) (gs : List Step) → AreSteps w m gs → WaitsIn w log h m → WaitsIn w (log ++ map event_of gs) h (state_after w m gs)
-steps_wait w log h m [] s k = subst (λ es. WaitsIn w es h m) (sym (append-nil log)) k
-steps_wait w log h m (g ∷ gs) s k =
-    let c = g.event.cluster.0 in
-    let next = step_by w log g.event h c m g.done (part_after w c g (m.parts c)) (cluster_of w h == c) refl s.0.steps.guard refl k in
-    subst (λ es. WaitsIn w es h (state_after w (after w m g) gs)) (append_assoc log (g.event ∷ []) (map event_of gs)) (steps_wait w (log ++ g.event ∷ []) h (after w m g) gs s.1 next)
-
-opening_waits : (w : Config) (h : ℕ) → WaitsIn w [] h (opening w)
-opening_waits w h = record { committed = []; waiting = []; stores = refl; commits = refl; buffer = refl }
-
-facts : (w : Config) (log : List Event) (h : ℕ) (m : Machine) → WaitsIn w log h m → BufferFacts w log h m
+facts : (w : Config) (log : List Event) (h : ℕ) (m : Machine) → WaitsAt log h (hart_at w m h) → BufferFacts w log h m
 facts w log h m k = record { committed = k.committed; waiting = k.waiting; stores = k.stores; commits = k.commits; buffer = k.buffer }
 
 pub buffers_hold_uncommitted_stores : (w : Config) (log : List Event) (m : Machine) (h : ℕ) → Reaches w log m → BufferFacts w log h m
-buffers_hold_uncommitted_stores w log m h r = facts w log h m (subst (WaitsIn w log h) (sym r.state) (subst (λ es. WaitsIn w es h (state_after w (opening w) r.run.steps)) r.run.events (steps_wait w [] h (opening w) r.run.steps r.run.happen (opening_waits w h))))
+buffers_hold_uncommitted_stores w log m h r = facts w log h m (reached_keeps w WaitsAt (waits_kept w) log m r h (record { committed = []; waiting = []; stores = refl; commits = refl; buffer = refl }))

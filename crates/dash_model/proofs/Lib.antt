@@ -16,6 +16,7 @@ pub mod RowsAlong
 pub mod Views
 pub mod Taken
 pub mod Lift
+pub mod HartRuns
 pub mod Buffers
 pub mod Written
 pub mod Stores

@@ -21,10 +21,11 @@ use Rattle.dash_model.specs.HartRows.{HartEffect, entry_of}
 use Rattle.dash_model.specs.HartGuards.{number_of}
 use Rattle.dash_model.specs.Guard.{Guard}
 use Rattle.dash_model.specs.Row.{row}
-use Rattle.dash_model.specs.Machine.{Machine, Step, part_after, CanHappen, after}
+use Rattle.dash_model.specs.Machine.{Machine, Step, CanHappen, after}
 use Rattle.dash_model.specs.LineContent.{store_in, store_of}
 use Rattle.dash_model.proofs.Buffers.{Buffer, Kept, Dropped, Added, buffer_is, number_is, store_retires}
 use Rattle.dash_model.proofs.Written.{IsWrite}
+use Rattle.dash_model.proofs.HartRuns.{IsKept, hart_step}
 
 -- a store that waits is that of its number in the log
 pub record IsStored (w : Config) (log : List Event) (h : ℕ) (s : Stored) : Type 0 where
@@ -148,11 +149,11 @@ other_listed w c log e d p h s differs can k = record {
   none = λ n low. stores_more log e h n ∙ ap₂ (λ xs ys. xs ++ ys) (k.none n low) (beyond w c e.kind d p h n can (λ same. absurd (differs same)));
 }
 
-listed_by : (w : Config) (log : List Event) (e : Event) (h c : ℕ) (m : Machine) (d : HartEffect) (q : Part) (b : Bool) → (cluster_of w h == c) ≡ b → Guard w c e.kind d (m.parts c) → q.harts ≡ (row w c e.kind d (m.parts c)).part.harts → IsListed w log h ((m.parts (cluster_of w h)).harts h) → IsListed w (log ++ e ∷ []) h ((cond b q (m.parts (cluster_of w h))).harts h)
-listed_by w log e h c m d q true is can harts k =
-    let same : cluster_of w h ≡ c = grind (arith, nat_tests) in
-    subst (λ z. IsListed w (log ++ e ∷ []) h (z h)) (sym harts) (hart_listed w c log e d (m.parts c) h can (subst (λ z. IsListed w log h ((m.parts z).harts h)) same k))
-listed_by w log e h c m d q false is can harts k = other_listed w c log e d (m.parts c) h ((m.parts (cluster_of w h)).harts h) (λ same. (let yes : (cluster_of w h == c) ≡ true = grind (arith, nat_tests) in absurd (cc))) can k
+listed_kept : (w : Config) → IsKept w (IsListed w)
+listed_kept w = record {
+  own = λ c log e d p h can k. hart_listed w c log e d p h can k;
+  other = λ c log e d p h s other can k. other_listed w c log e d p h s other can k;
+}
 
 pub step_listed : (w : Config) (log : List Event) (m : Machine) (g : Step) → CanHappen w m g → Listed w log m → Listed w (log ++ g.event ∷ []) (after w m g)
-step_listed w log m g can k h = listed_by w log g.event h g.event.cluster.0 m g.done (part_after w g.event.cluster.0 g (m.parts g.event.cluster.0)) (cluster_of w h == g.event.cluster.0) refl can.steps.guard refl (k h)
+step_listed w log m g can k h = hart_step w (IsListed w) (listed_kept w) log m g can h (k h)
