@@ -11,6 +11,8 @@ use Rattle.dash_msg.specs.declared.classes.Class.TheVariants.{Request}
 use Rattle.dash_msg.specs.declared.msg.Msg.{Msg}
 use Rattle.dash_msg.specs.declared.msg.Msg.TheVariants.{Unlock, LockGrant, UnlockAck}
 use Rattle.dash_msg.specs.declared.parcel.Sent.{Sent}
+use Rattle.dash_event.specs.declared.access.Access.{Access}
+use Rattle.dash_event.specs.declared.access.Seen.TheVariants as seen
 use Rattle.dash_event.specs.declared.event.Event.{Event}
 use Rattle.dash_event.specs.declared.event.Kind.{Kind}
 use Rattle.dash_event.specs.declared.event.Kind.TheVariants as kind
@@ -22,12 +24,13 @@ use Rattle.dash_model.specs.HartRows.{HartEffect}
 use Rattle.dash_model.specs.Guard.{Guard}
 use Rattle.dash_model.specs.Ranges.{has_hart, own_lock}
 use Rattle.dash_model.specs.Row.{row}
-use Rattle.dash_model.specs.Coherent.{lock_uses}
+use Rattle.dash_model.specs.Coherent.{ServesLock, lock_uses}
 use Rattle.dash_model.specs.Cases.{TakesWell}
-use Rattle.dash_model.specs.LockFacts.{of_hart_msg, of_hart, AllAreHarts, uses_of, LocksAreCounted}
+use Rattle.dash_model.specs.LockFacts.{of_hart_msg, of_hart, AllAreHarts, uses_of, LocksAreCounted, LockUsesAreNumbered}
 use Rattle.dash_model.specs.Machine.{Machine, Step, taken, AtHead, less, CanHappen, after, opening, Reaches}
 use Rattle.dash_model.proofs.Weigh.{weigh-append, cut}
 use Rattle.dash_model.proofs.Totals.{total_add, total_same, total_one, total_bound}
+use Rattle.dash_model.proofs.Prefix.{events_happen}
 use Rattle.dash_model.proofs.InRuns.{in_runs}
 use Rattle.dash_model.proofs.LockRange.{locks_fit}
 use Rattle.dash_model.proofs.HartSteps.{answers_now, hart_step}
@@ -227,3 +230,19 @@ all_counts w log m r = in_runs w (λ es n. Counts w es n) (opening_counts w) (λ
 
 pub locks_are_counted : LocksAreCounted
 locks_are_counted w log m word i r = record { count = (all_counts w log m r).counts word i; bound = used_most w log m r (all_counts w log m r) word i }
+
+-- what an access of a lock word is shown
+shown_by : (w : Config) (c : ℕ) (e : Kind) (d : HartEffect) (p : Part) (a : Access) → Guard w c e d p → ServesLock e a → (own_lock w c a.word ≡ true) × (a.seen ≡ seen.Lock (p.locks (lock_at w a.word.0)).count)
+unfolding Guard
+shown_by w c (kind.Grant b) d p a can is = subst (λ y. (own_lock w c y.word ≡ true) × (y.seen ≡ seen.Lock (p.locks (lock_at w y.word.0)).count)) is (can.mine, can.access.seen_is)
+shown_by w c (kind.Free f b) d p a can is = subst (λ y. (own_lock w c y.word ≡ true) × (y.seen ≡ seen.Lock (p.locks (lock_at w y.word.0)).count)) is (both_right (has_hart w b.hart) (own_lock w c b.word) can.serves, can.access.seen_is)
+shown_by w c _ d p a can is = absurd is
+
+pub lock_uses_numbered : LockUsesAreNumbered
+lock_uses_numbered w before rest e a r is =
+    let s = events_happen w before rest e r in
+    let c = s.step.event.cluster.0 in
+    let shown = shown_by w c s.step.event.kind s.step.done (s.state.parts c) a s.can.steps.guard (subst (λ (x : Event). ServesLock x.kind a) (sym s.is) is) in
+    let lock = both_left (is_lock w a.word.0) (lock_home w (lock_at w a.word.0) == c) shown.0 in
+    let there = is_same (lock_home w (lock_at w a.word.0)) c (both_right (is_lock w a.word.0) (lock_home w (lock_at w a.word.0) == c) shown.0) in
+    shown.1 ∙ ap seen.Lock (ap (λ y. ((s.state.parts y).locks (lock_at w a.word.0)).count) (sym there) ∙ (locks_are_counted w before s.state a.word lock s.reached).count)

@@ -1,19 +1,21 @@
 -- What every run keeps of messages, waiters and lock words.
-use Rattle.std.specs.Prelude.{◌≡◌, ℕ, ◌+◌, ◌*◌, ◌<◌, ◌≤◌, true, cond, List, [], ◌∷◌, sum_by}
+use Rattle.std.specs.Prelude.{◌≡◌, ℕ, ◌+◌, ◌*◌, ◌<◌, ◌≤◌, true, cond, List, [], ◌∷◌, ◌++◌, sum_by}
 use Rattle.dash_base.specs.declared.id.WordAddr.{WordAddr}
 use Rattle.dash_msg.specs.declared.msg.Msg.{Msg}
 use Rattle.dash_msg.specs.declared.msg.Msg.TheVariants.{LockAsk, Unlock, LockGrant, UnlockAck}
+use Rattle.dash_event.specs.declared.access.Access.{Access}
+use Rattle.dash_event.specs.declared.access.Seen.TheVariants.{Lock}
 use Rattle.dash_event.specs.declared.event.Event.{Event}
 use Rattle.dash_model.specs.Maps.{weigh, total}
 use Rattle.dash_model.specs.Config.{Config, all_harts, cluster_of, lines, is_lock, lock_at, lock_home}
-use Rattle.dash_model.specs.Coherent.{lock_uses}
+use Rattle.dash_model.specs.Coherent.{ServesLock, lock_uses}
 use Rattle.dash_model.specs.Cell.{NoCopy, NoSlot}
 use Rattle.dash_model.specs.Net.{Packet}
 use Rattle.dash_model.specs.Part.{Waiter}
 use Rattle.dash_model.specs.OnLine.{one}
 use Rattle.dash_model.specs.Ranges.{in_range}
 use Rattle.dash_model.specs.LineFacts.{cell_at, IsOnItsWay}
-use Rattle.dash_model.specs.Machine.{Machine, Reaches}
+use Rattle.dash_model.specs.Machine.{Machine, IsRun, Reaches}
 
 -- each message on its way is of a line of memory or of a lock word, and its numbers are in range for the cluster that it goes to: its line or word is at home there where its row wants that, and the clusters and harts that it names exist
 abbrev pub MessagesAreInRange : Type 0
@@ -76,3 +78,7 @@ pub record IsCounted (w : Config) (log : List Event) (m : Machine) (word : WordA
 -- in every run, of each lock word
 abbrev pub LocksAreCounted : Type 0
 LocksAreCounted = (w : Config) (log : List Event) (m : Machine) (word : WordAddr) → is_lock w word.0 ≡ true → Reaches w log m → IsCounted w log m word
+
+-- so each access of a lock word that an event of a run serves is shown how many the log has before it
+abbrev pub LockUsesAreNumbered : Type 0
+LockUsesAreNumbered = (w : Config) (before rest : List Event) (e : Event) (a : Access) → IsRun w (before ++ (e ∷ rest)) → ServesLock e.kind a → a.seen ≡ Lock (uses_of a.word before)

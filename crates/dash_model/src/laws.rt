@@ -4,7 +4,7 @@ ghost use Rattle.dash_model.specs.Cases.{CasesApply};
 ghost use Rattle.dash_model.specs.Examples.{ExampleRuns};
 ghost use Rattle.dash_model.specs.History.{VersionsStayBelowGreatest};
 ghost use Rattle.dash_model.specs.LineFacts.{RunsKeepLines};
-ghost use Rattle.dash_model.specs.LockFacts.{MessagesAreInRange, RunsKeepLocks};
+ghost use Rattle.dash_model.specs.LockFacts.{MessagesAreInRange, LinesAreOfMemory, RunsKeepLocks, LocksAreCounted, LockUsesAreNumbered};
 ghost use Rattle.dash_model.specs.MachineLaws.{EventsFixEffects, LanesAreQueues, StepsChangeOnePart, StampsRise, CommitsAreNumbered, EventsHappen, LocalRunsGrow, MergesAreRuns};
 ghost use Rattle.dash_model.specs.TableAccesses.{RowsOfAccesses};
 ghost use Rattle.dash_model.specs.TableHarts.{RowsOfHarts};
@@ -34,6 +34,11 @@ pub fn messages_are_in_range()
     ensures { MessagesAreInRange }
 {}
 
+/// In every run no cluster has a copy or a slot of a line that is not of memory.
+pub fn lines_are_of_memory()
+    ensures { LinesAreOfMemory }
+{}
+
 /// In every run a hart whose lock instruction was sent has exactly one lock message on its way or one
 /// place in a queue, and any other hart has none; and whoever waits for a lock word is a hart of the
 /// machine.
@@ -49,6 +54,17 @@ pub fn runs_keep_locks()
 /// the word.
 pub fn cases_apply()
     ensures { CasesApply }
+{}
+
+/// In every run the count of a lock word is the number of the log's Grant and Free events of that word: it
+/// never reaches its greatest value, since harts have no more instructions than their budgets.
+pub fn locks_are_counted()
+    ensures { LocksAreCounted }
+{}
+
+/// In a run each access of a lock word that is granted or freed is shown how many were before it.
+pub fn lock_uses_are_numbered()
+    ensures { LockUsesAreNumbered }
 {}
 
 /// Each event fixes its effect: what its fields leave out makes no difference.
