@@ -7,11 +7,13 @@ use Rattle.hart_core.specs.HartState.{HartState}
 use Rattle.hart_core.proofs.LawsOffered.{retires, one_need, needs_of}
 use Rattle.dash_event.specs.declared.event.Event.{Event}
 use Rattle.dash_event.specs.declared.event.Kind.{Kind}
-use Rattle.dash_model.specs.Config.{Config}
+use Rattle.dash_model.specs.Config.{Config, cluster_of}
 use Rattle.dash_model.specs.Part.{Processor, Part}
+use Rattle.dash_model.specs.LockFacts.{IsLock, NeedsLock, RunsKeepLocks}
 use Rattle.dash_model.specs.Machine.{Machine, Step, part_after, CanHappen, after, Reaches}
-use Rattle.dash_model.proofs.HartSteps.{IsLock, NeedsLock, answers_now, HartStep, Rests, Works, Sends, Answered, hart_step}
-use Rattle.dash_model.proofs.LockFacts.{cases_apply}
+use Rattle.dash_model.proofs.HartSteps.{answers_now, HartStep, Rests, Works, Sends, Answered, hart_step}
+use Rattle.dash_model.proofs.LockRange.{locks_fit}
+use Rattle.dash_model.proofs.LockFacts.{one_each, cases_apply}
 use Rattle.dash_model.proofs.InRuns.{in_runs}
 
 -- where it was sent the hart's next instruction is a lock instruction
@@ -62,3 +64,6 @@ answers_retire w e h s t (Answered i j n x d a b) k =
     let now = retires w.image w.top s.core t.core n x d in
     let one = lock_retires n s.core.retired (does_lock w s.core t.core n x d (k a)) in
     omega arith
+
+pub runs_keep_locks : RunsKeepLocks
+runs_keep_locks w log m r = record { waiters = (locks_fit w log m r).queues; one_each = one_each w log m r; next = λ h sent. ask_first w log m r (cluster_of w h) h sent }

@@ -15,8 +15,7 @@ use Rattle.write_buffer.specs.declared.entry.Entry.{Entry as Stored}
 use Rattle.write_buffer.specs.declared.entry.Look.{Look}
 use Rattle.write_buffer.specs.declared.entry.Look.TheVariants.{Hit}
 use Rattle.write_buffer.specs.Look.{newest_of, look_by}
-use Rattle.hart_core.specs.HartState.{HartState}
-use Rattle.hart_core.specs.Meaning.{Needs, Does}
+use Rattle.hart_core.specs.Meaning.{Does}
 use Rattle.dash_base.specs.declared.need.Need.{Need}
 use Rattle.dash_base.specs.declared.need.Need.TheVariants as needed
 use Rattle.dash_event.specs.Effects.{reply}
@@ -35,6 +34,7 @@ use Rattle.dash_model.specs.LockRows.{grant_row, answered}
 use Rattle.dash_model.specs.Ranges.{own_hart, in_range, has_space, applies}
 use Rattle.dash_model.specs.Row.{row, line_msg_row, msg_row, msg_row_if}
 use Rattle.dash_model.specs.OnLine.{one}
+use Rattle.dash_model.specs.LockFacts.{IsLock, NeedsLock}
 use Rattle.dash_model.specs.Cases.{FindsCase, TakesWell}
 use Rattle.dash_model.proofs.Taken.{both}
 
@@ -51,18 +51,6 @@ answers_now e h = 0
 -- the event does neither
 abbrev pub Idle : Kind → ℕ → Type 0
 Idle e h = (asks_now e h ≡ 0) × (answers_now e h ≡ 0)
-
--- what a lock instruction needs
-abbrev pub IsLock : Need → Type 0
-IsLock (needed.Ask word value) = Unit {0}
-IsLock (needed.Unlock word) = Unit {0}
-IsLock need = ⊥
-
--- the hart's next instruction is one
-pub record NeedsLock (w : Config) (s : HartState) : Type 0 where
-  pub need : Need
-  pub needs : Needs w.image w.top s need
-  pub lock : IsLock need
 
 -- what becomes of the hart
 pub data HartStep (w : Config) (e : Kind) (h : ℕ) (s t : Processor) : Type 0 where

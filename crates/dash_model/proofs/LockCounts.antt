@@ -34,7 +34,7 @@ use Rattle.dash_model.proofs.Prefix.{events_happen}
 use Rattle.dash_model.proofs.InRuns.{in_runs}
 use Rattle.dash_model.proofs.LockRange.{locks_fit}
 use Rattle.dash_model.proofs.HartSteps.{answers_now, hart_step}
-use Rattle.dash_model.proofs.LockFacts.{idle_elsewhere, runs_keep_locks, cases_apply}
+use Rattle.dash_model.proofs.LockFacts.{idle_elsewhere, one_each, cases_apply}
 use Rattle.dash_model.proofs.Retired.{retired_in_budget}
 use Rattle.dash_model.proofs.Asking.{ask_first, answers_retire}
 use Rattle.dash_model.proofs.Serving.{serves, answer_msg, sent_answers, raised_by, grants_to, served}
@@ -165,7 +165,7 @@ served_most : (w : Config) (log : List Event) (m : Machine) → Reaches w log m 
 served_most w log m r k h =
     let harts = k.harts h in
     let retired = retired_in_budget w log m r (cluster_of w h) h in
-    let one_each = (runs_keep_locks w log m r).one_each h in
+    let whole = one_each w log m r h in
     let few = asked_most ((m.parts (cluster_of w h)).harts h).asked in
     let less = answers_le h m.net in
     omega arith

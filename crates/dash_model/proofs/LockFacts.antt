@@ -19,7 +19,7 @@ use Rattle.dash_model.specs.Guard.{Guard}
 use Rattle.dash_model.specs.Ranges.{has_hart}
 use Rattle.dash_model.specs.Row.{row}
 use Rattle.dash_model.specs.OnLine.{one}
-use Rattle.dash_model.specs.LockFacts.{of_hart, is_waiter, queue_of, places_of, RunsKeepLocks}
+use Rattle.dash_model.specs.LockFacts.{of_hart, is_waiter, queue_of, places_of}
 use Rattle.dash_model.specs.Cases.{FindsCase, TakesWell, CasesApply}
 use Rattle.dash_model.specs.Machine.{Machine, Step, taken, AtHead, less, CanHappen, after, opening, Reaches}
 use Rattle.dash_model.proofs.Along.{changed}
@@ -27,7 +27,6 @@ use Rattle.dash_model.proofs.Weigh.{weigh-append, cut}
 use Rattle.dash_model.proofs.Totals.{total_four, total_none}
 use Rattle.dash_model.proofs.HartSteps.{asks_now, answers_now, Idle, HartStep, Rests, Works, Sends, Answered, hart_step}
 use Rattle.dash_model.proofs.LockBalance.{takes_lock, sent_locks, own_at, own_places, balanced}
-use Rattle.dash_model.proofs.LockRange.{locks_fit}
 use Rattle.dash_model.proofs.LockCases.{OneEach, takes_well}
 use Rattle.dash_model.proofs.InRuns.{in_runs}
 
@@ -130,11 +129,8 @@ opening_one : (w : Config) → OneEach w (opening w)
 unfolding weigh
 opening_one w h = let none = total_none (λ i. weigh (is_waiter h) (queue_of w (opening w) i)) w.top.locks (λ i l. refl) in omega arith
 
-one_each : (w : Config) (log : List Event) (m : Machine) → Reaches w log m → OneEach w m
+pub one_each : (w : Config) (log : List Event) (m : Machine) → Reaches w log m → OneEach w m
 one_each w log m r = in_runs w (λ es n. OneEach w n) (opening_one w) (λ es n g reached can k. one_step w es n g reached can k) log m r
-
-pub runs_keep_locks : RunsKeepLocks
-runs_keep_locks w log m r = record { waiters = (locks_fit w log m r).queues; one_each = one_each w log m r }
 
 pub cases_apply : CasesApply
 cases_apply w log m g r can = takes_well w log m g r (one_each w log m r) can

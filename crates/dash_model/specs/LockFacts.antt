@@ -2,10 +2,14 @@
 use Rattle.std.specs.Prelude.{◌≡◌, ℕ, ◌+◌, ◌*◌, ◌<◌, ◌≤◌, true, cond, List, [], ◌∷◌, ◌++◌, sum_by}
 use Rattle.dash_base.specs.declared.id.WordAddr.{WordAddr}
 use Rattle.dash_msg.specs.declared.msg.Msg.{Msg}
-use Rattle.dash_msg.specs.declared.msg.Msg.TheVariants.{LockAsk, Unlock, LockGrant, UnlockAck}
+use Rattle.dash_msg.specs.declared.msg.Msg.TheVariants.{LockAsk, Unlock as UnlockMsg, LockGrant, UnlockAck}
 use Rattle.dash_event.specs.declared.access.Access.{Access}
 use Rattle.dash_event.specs.declared.access.Seen.TheVariants.{Lock}
 use Rattle.dash_event.specs.declared.event.Event.{Event}
+use Rattle.hart_core.specs.HartState.{HartState}
+use Rattle.hart_core.specs.Meaning.{Needs}
+use Rattle.dash_base.specs.declared.need.Need.{Need}
+use Rattle.dash_base.specs.declared.need.Need.TheVariants.{Ask, Unlock}
 use Rattle.dash_model.specs.Maps.{weigh, total}
 use Rattle.dash_model.specs.Config.{Config, all_harts, cluster_of, lines, is_lock, lock_at, lock_home}
 use Rattle.dash_model.specs.Coherent.{ServesLock, lock_uses}
@@ -37,7 +41,7 @@ AllAreHarts w (x ∷ xs) = (x.hart < all_harts w) × AllAreHarts w xs
 -- 1 where a message is a lock message of hart h: it asks for a lock word, frees one, or answers
 abbrev pub of_hart_msg : ℕ → Msg → ℕ
 of_hart_msg h (LockAsk t n word v) = one t.0 h
-of_hart_msg h (Unlock t n word) = one t.0 h
+of_hart_msg h (UnlockMsg t n word) = one t.0 h
 of_hart_msg h (LockGrant t) = one t.0 h
 of_hart_msg h (UnlockAck t old) = one t.0 h
 of_hart_msg h m = 0
@@ -57,10 +61,23 @@ places_of w m h = total (λ i. weigh (is_waiter h) (queue_of w m i)) w.top.locks
 abbrev pub asking : Config → Machine → ℕ → ℕ
 asking w m h = cond ((m.parts (cluster_of w h)).harts h).asked 1 0
 
--- waiters are harts of the machine; a hart whose lock instruction was sent has one lock message on its way or one place in a queue, and another hart none
+-- what a lock instruction needs
+abbrev pub IsLock : Need → Type 0
+IsLock (Ask word value) = Unit {0}
+IsLock (Unlock word) = Unit {0}
+IsLock need = ⊥
+
+-- the hart's next instruction is one
+pub record NeedsLock (w : Config) (s : HartState) : Type 0 where
+  pub need : Need
+  pub needs : Needs w.image w.top s need
+  pub lock : IsLock need
+
+-- waiters are harts of the machine; a hart whose lock instruction was sent has one lock message on its way or one place in a queue, and another hart none; and that instruction is still its next
 pub record LockFacts (w : Config) (m : Machine) : Type 0 where
   pub waiters : (c i : ℕ) → AllAreHarts w ((m.parts c).locks i).queue
   pub one_each : (h : ℕ) → weigh (of_hart h) m.net + places_of w m h ≡ asking w m h
+  pub next : (h : ℕ) → ((m.parts (cluster_of w h)).harts h).asked ≡ true → NeedsLock w ((m.parts (cluster_of w h)).harts h).core
 
 -- every run keeps these
 abbrev pub RunsKeepLocks : Type 0

@@ -40,8 +40,8 @@ pub fn lines_are_of_memory()
 {}
 
 /// In every run a hart whose lock instruction was sent has exactly one lock message on its way or one
-/// place in a queue, and any other hart has none; and whoever waits for a lock word is a hart of the
-/// machine.
+/// place in a queue, and any other hart has none; that instruction is still the hart's next; and whoever
+/// waits for a lock word is a hart of the machine.
 pub fn runs_keep_locks()
     ensures { RunsKeepLocks }
 {}

@@ -1,4 +1,4 @@
-use Rattle.dash_model.proofs.LockFacts.{runs_keep_locks}
+use Rattle.dash_model.proofs.Asking.{runs_keep_locks}
 use Rattle.dash_model.proofs.laws.runs_keep_locks.Goals as goal
 
 pub returns : goal.returns
