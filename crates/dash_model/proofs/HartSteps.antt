@@ -36,7 +36,7 @@ use Rattle.dash_model.specs.Row.{row, line_msg_row, msg_row, msg_row_if}
 use Rattle.dash_model.specs.OnLine.{one}
 use Rattle.dash_model.specs.LockFacts.{IsLock, NeedsLock}
 use Rattle.dash_model.specs.Cases.{FindsCase, TakesWell}
-use Rattle.dash_model.proofs.Taken.{both}
+use Rattle.dash_model.proofs.Tests.{both, one_same, one_other}
 
 -- 1 where the event sends the lock message of hart h, and where it takes the answer
 abbrev pub asks_now : Kind → ℕ → ℕ
@@ -121,12 +121,6 @@ module _ (w : Config) (e : Kind) where
 
   taken_line : (c f : ℕ) (q : LineId) (m : Msg) (h : ℕ) (p : Part) → Idle e h → HartStep w e h (p.harts h) ((line_msg_row w c f q m p).part.harts h)
   taken_line c f q m h p i = lined q.0 (take_row (first_prefetch w) (home_of w q.0) c f m (p.cells q.0) (p.homes q.0)) h p p.harts (rests h (p.harts h) i)
-
-one_same : (k : ℕ) → one k k ≡ 1
-one_same k = grind (arith, nat_tests)
-
-one_other : (k i : ℕ) → k ≢ i → one k i ≡ 0
-one_other k i d = grind (arith, nat_tests)
 
 lock_sent : (h : ℕ) (m : Msg) (need : Need) (p : Part) → LockSends h m need p → IsLock need
 lock_sent h m (needed.Ask word value) p e = tt

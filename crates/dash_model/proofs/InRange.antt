@@ -13,12 +13,13 @@ use Rattle.dash_model.specs.Ranges.{has_line, has_cluster, at_home, in_range}
 use Rattle.dash_model.specs.LineFacts.{IsOnItsWay}
 use Rattle.dash_model.specs.LockFacts.{MessagesAreInRange}
 use Rattle.dash_model.specs.Machine.{Machine, Reaches}
+use Rattle.dash_model.proofs.Tests.{same, below, both}
 use Rattle.dash_model.proofs.LineState.{State}
 use Rattle.dash_model.proofs.Facts.{misrouted}
 use Rattle.dash_model.proofs.Steps.{Invariant}
 use Rattle.dash_model.proofs.Bounds.{Named, AllNamed, Bounded}
 use Rattle.dash_model.proofs.Along.{along}
-use Rattle.dash_model.proofs.Taken.{below, both, line_in, home_in}
+use Rattle.dash_model.proofs.Taken.{line_in, home_in}
 use Rattle.dash_model.proofs.Reached.{each_reached}
 use Rattle.dash_model.proofs.Nowhere.{nowhere}
 use Rattle.dash_model.proofs.LockRange.{LockFits, AllFit, locks_fit}
@@ -91,9 +92,6 @@ of_line w log m q l e r o =
       | inl low ↦ (let k = each_reached w log m l low r in range_by w l k.content q.src q.dst q.stamp q.msg (along w l m) low e (on_member l q m.net e o) k.holds.invariant k.holds.bounded)
       | inr out ↦ absurd (none_there q (on l m.net) (nowhere w log m r l out).net (on_member l q m.net e o))
     ]
-
-same : (c : ℕ) → (c == c) ≡ true
-same c = grind (arith, nat_tests)
 
 by_msg : (w : Config) (log : List Event) (m : Machine) (a b u : ℕ) (x : Msg) → Reaches w log m → IsOnItsWay (parcel a b x u) m.net → in_range w b x ≡ true
 by_msg w log m a b u (Read l) r o = of_line w log m (parcel a b (Read l) u) l.0 (same l.0) r o

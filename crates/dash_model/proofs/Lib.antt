@@ -36,6 +36,7 @@ pub mod Merge
 pub mod Local
 pub mod Prefix
 pub mod Numbered
+pub mod Tests
 pub mod InRuns
 pub mod Nowhere
 pub mod LockRange

@@ -1,5 +1,5 @@
 -- Each message of a line finds a case of its row.
-use Rattle.std.proofs.Common.{◌≡◌, ℕ, ◌+◌, ◌≤◌, ◌<◌, ◌==◌, ◌&&◌, Bool, true, false, Some, List, refl, subst, arith}
+use Rattle.std.proofs.Common.{◌≡◌, ℕ, ◌+◌, ◌≤◌, ◌<◌, ◌==◌, true, Some, List, refl, subst, arith}
 use Rattle.std.proofs.lemmas.Bool.Decides.{nat_tests}
 use Rattle.dash_base.specs.declared.id.LineId.{LineId}
 use Rattle.dash_msg.specs.Classes.{class_of}
@@ -10,11 +10,12 @@ use Rattle.dash_model.specs.Maps.{weigh}
 use Rattle.dash_model.specs.Config.{Config, lines, home_of}
 use Rattle.dash_model.specs.Net.{Packet, parcel, head}
 use Rattle.dash_model.specs.Cell.{Asked, Poisoned, Came, Refused, Slot, NoSlot, Reads, Owns, Acks, NoAcks, Counting, Expects, Entry, Uncached, SharedBy, Dirty}
-use Rattle.dash_model.specs.OnLine.{on, is_of, one, datas, brings, naks, gives_back, leaves, acks_to}
+use Rattle.dash_model.specs.OnLine.{on, is_of, datas, brings, naks, gives_back, leaves, acks_to}
 use Rattle.dash_model.specs.Requests.{is_dirty_of}
 use Rattle.dash_model.specs.Ranges.{has_line, has_cluster, at_home, in_range, has_space}
 use Rattle.dash_model.specs.Machine.{Machine, Reaches}
 use Rattle.dash_model.specs.Cases.{awaits_copy, awaits_own, awaits, is_pending, FindsCase}
+use Rattle.dash_model.proofs.Tests.{same, is_same, both_left, both_right, one_same}
 use Rattle.dash_model.proofs.LineState.{State}
 use Rattle.dash_model.proofs.Weigh.{cut}
 use Rattle.dash_model.proofs.Along.{along, on-head}
@@ -22,12 +23,6 @@ use Rattle.dash_model.proofs.Facts.{Place, AtHome, At, Back, Moving, returns, mo
 use Rattle.dash_model.proofs.LineSteps.{IsLineMsg}
 use Rattle.dash_model.proofs.Taken.{case_applies}
 use Rattle.dash_model.proofs.Reached.{each_reached}
-
-same : (k : ℕ) → (k == k) ≡ true
-same k = grind (arith, nat_tests)
-
-one_self : (c : ℕ) → one c c ≡ 1
-one_self c = grind (arith, nat_tests)
 
 -- what the head weighs, all do
 weighs : (a b u : ℕ) (m : Msg) (net : List Packet) (v : Packet → ℕ) → head a b (class_of m) net ≡ Some (parcel a b m u) → v (parcel a b m u) ≡ 1 → 1 ≤ weigh v net
@@ -90,19 +85,8 @@ from_leaving h s p f k n =
     let e = k.tokens.entry in
     dirty_true s.home.entry f (omega arith)
 
-both_left : (a b : Bool) → a && b ≡ true → a ≡ true
-both_left true b e = refl
-both_left false b e = absurd (cc)
-
-both_right : (a b : Bool) → a && b ≡ true → b ≡ true
-both_right true b e = e
-both_right false b e = absurd (cc)
-
 line_low : (w : Config) (l : LineId) → has_line w l ≡ true → l.0 < lines w
 line_low w l e = grind (arith, nat_tests)
-
-is_same : (a b : ℕ) → (a == b) ≡ true → a ≡ b
-is_same a b e = grind (arith, nat_tests)
 
 module _ (w : Config) (log : List Event) (m : Machine) (c f u : ℕ) (r : Reaches w log m) where
   -- the message is first in its lane
@@ -143,26 +127,26 @@ module _ (w : Config) (log : List Event) (m : Machine) (c f u : ℕ) (r : Reache
   line_finds (FwdRead l q) t first e = record { range = e; room = refl; case = refl }
   line_finds (FwdReadEx l q) t first e = record { range = e; room = refl; case = refl }
   line_finds (Inval l q) t first e = record { range = e; room = refl; case = refl }
-  line_finds (WriteBack l d) t first e = record { range = e; room = refl; case = returned l (WriteBack l d) (same l.0) first e (one_self f) }
-  line_finds (SharingBack l d q) t first e = record { range = e; room = refl; case = returned l (SharingBack l d q) (same l.0) first (both_left (at_home w c l) (has_cluster w q) e) (one_self f) }
+  line_finds (WriteBack l d) t first e = record { range = e; room = refl; case = returned l (WriteBack l d) (same l.0) first e (one_same f) }
+  line_finds (SharingBack l d q) t first e = record { range = e; room = refl; case = returned l (SharingBack l d q) (same l.0) first (both_left (at_home w c l) (has_cluster w q) e) (one_same f) }
   line_finds (Transfer l q) t first e =
       let home = both_left (at_home w c l) (has_cluster w q) e in
       let k = facts l (both_left (has_line w l) (home_of w l.0 == c) home) in
-      record { range = e; room = refl; case = at_its_home l home (from_leaving (home_of w l.0) (along w l.0 m) k.0 f (k.1 f) (weighs_on l.0 (Transfer l q) (leaves f) (same l.0) first (one_self f))) }
+      record { range = e; room = refl; case = at_its_home l home (from_leaving (home_of w l.0) (along w l.0 m) k.0 f (k.1 f) (weighs_on l.0 (Transfer l q) (leaves f) (same l.0) first (one_same f))) }
   line_finds (LockAsk h n word v) t first e = absurd t
   line_finds (Unlock h n word) t first e = absurd t
   line_finds (Data l d) t first e =
-      let n = weighs_on l.0 (Data l d) (datas c) (same l.0) first (one_self c) in
+      let n = weighs_on l.0 (Data l d) (datas c) (same l.0) first (one_same c) in
       let b = ((facts l e).1 c).requests.read in
       record { range = e; room = refl; case = reading_true ((m.parts c).cells l.0).slot (omega arith) }
   line_finds (DataEx l d q) t first e =
-      let n = weighs_on l.0 (DataEx l d q) (brings c) (same l.0) first (one_self c) in
+      let n = weighs_on l.0 (DataEx l d q) (brings c) (same l.0) first (one_same c) in
       let b = ((facts l e).1 c).requests.own in
       record { range = e; room = refl; case = owning_true ((m.parts c).cells l.0).slot (omega arith) }
-  line_finds (Ack l) t first e = record { range = e; room = has_room l (Ack l) (same l.0) first e; case = acknowledged l (Ack l) (same l.0) first e (one_self c) }
-  line_finds (TransferAck l) t first e = record { range = e; room = has_room l (TransferAck l) (same l.0) first e; case = acknowledged l (TransferAck l) (same l.0) first e (one_self c) }
+  line_finds (Ack l) t first e = record { range = e; room = has_room l (Ack l) (same l.0) first e; case = acknowledged l (Ack l) (same l.0) first e (one_same c) }
+  line_finds (TransferAck l) t first e = record { range = e; room = has_room l (TransferAck l) (same l.0) first e; case = acknowledged l (TransferAck l) (same l.0) first e (one_same c) }
   line_finds (Nak l) t first e =
-      let n = weighs_on l.0 (Nak l) (naks c) (same l.0) first (one_self c) in
+      let n = weighs_on l.0 (Nak l) (naks c) (same l.0) first (one_same c) in
       let b = ((facts l e).1 c).requests.all in
       record { range = e; room = refl; case = waiting_true ((m.parts c).cells l.0).slot (omega arith) }
   line_finds (LockGrant h) t first e = absurd t

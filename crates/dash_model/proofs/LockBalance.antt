@@ -1,5 +1,5 @@
 -- What each event does to the lock messages of a hart, its places in queues, and whether it asked: what one gains another loses.
-use Rattle.std.proofs.Common.{◌≡◌, ◌≢◌, ℕ, ◌+◌, ◌*◌, ◌≤◌, ◌<◌, ◌==◌, ◌&&◌, Bool, true, false, cond, Option, Some, None, List, [], ◌∷◌, ◌++◌, refl, sym, ap, ◌∙◌, subst, arith}
+use Rattle.std.proofs.Common.{◌≡◌, ℕ, ◌+◌, ◌*◌, ◌≤◌, ◌<◌, ◌==◌, Bool, true, false, cond, Option, Some, None, List, [], ◌∷◌, ◌++◌, refl, sym, ap, ◌∙◌, subst, arith}
 use Rattle.std.specs.Prelude.{unwrap_or}
 use Rattle.std.proofs.lemmas.Bool.Decides.{nat_tests}
 use Rattle.dash_base.specs.declared.id.ClusterId.{ClusterId}
@@ -32,9 +32,9 @@ use Rattle.dash_model.specs.Row.{row, line_msg_row, msg_row, msg_row_if}
 use Rattle.dash_model.specs.OnLine.{is_of, one}
 use Rattle.dash_model.specs.LockFacts.{of_hart_msg, is_waiter}
 use Rattle.dash_model.specs.Cases.{FindsCase, TakesWell}
+use Rattle.dash_model.proofs.Tests.{same, differ, both, both_right}
 use Rattle.dash_model.proofs.Along.{AllAre}
 use Rattle.dash_model.proofs.RowsAlong.{act_sends, take_sends}
-use Rattle.dash_model.proofs.Taken.{both}
 use Rattle.dash_model.proofs.Totals.{total_change}
 use Rattle.dash_model.proofs.HartSteps.{asks_now, answers_now, Idle}
 
@@ -118,25 +118,15 @@ module _ (w : Config) (c : ℕ) (e : Kind) (h : ℕ) where
   taken_line : (f : ℕ) (q : LineId) (m : Msg) (p : Part) → is_of q.0 m ≡ true → takes_lock e h ≡ 0 → Idle e h → Balanced w c e h p (line_msg_row w c f q m p)
   taken_line f q m p o t i = lined q.0 p (line_msg_row w c f q m p).part (line_msg_row w c f q m p).sent (take_sends q.0 (first_prefetch w) (home_of w q.0) c f m (p.cells q.0) (p.homes q.0) o) refl t i
 
-same : (k : ℕ) → (k == k) ≡ true
-same k = grind (arith, nat_tests)
-
-other_false : (i k : ℕ) → i ≢ k → (i == k) ≡ false
-other_false i k d = grind (arith, nat_tests)
-
 -- lock word i is another one: what its queue loses and gains
 queue_change : (w : Config) (c : ℕ) (p : Part) (i : ℕ) (x : Lock) (h : ℕ) → i < w.top.locks → (lock_home w i == c) ≡ true
     → own_places w c (record p { locks = upd p.locks i x }) h + weigh (is_waiter h) (p.locks i).queue ≡ own_places w c p h + weigh (is_waiter h) x.queue
 queue_change w c p i x h low home =
     let q = record p { locks = upd p.locks i x } in
-    let sum = total_change (own_at w c p h) (own_at w c q h) i w.top.locks low (λ j d. ap (λ b. cond (lock_home w j == c) (weigh (is_waiter h) (cond b x (p.locks j)).queue) 0) (sym (other_false j i d))) in
+    let sum = total_change (own_at w c p h) (own_at w c q h) i w.top.locks low (λ j d. ap (λ b. cond (lock_home w j == c) (weigh (is_waiter h) (cond b x (p.locks j)).queue) 0) (sym (differ j i d))) in
     let before : own_at w c p h i ≡ weigh (is_waiter h) (p.locks i).queue = ap (λ b. cond b (weigh (is_waiter h) (p.locks i).queue) 0) home in
     let after : own_at w c q h i ≡ weigh (is_waiter h) x.queue = ap (λ b. cond b (weigh (is_waiter h) (cond (i == i) x (p.locks i)).queue) 0) home ∙ ap (λ b. weigh (is_waiter h) (cond b x (p.locks i)).queue) (same i) in
     omega arith
-
-both_right : (a b : Bool) → a && b ≡ true → b ≡ true
-both_right true b e = e
-both_right false b e = absurd (cc)
 
 -- a lock word of this home
 pub lock_below : (w : Config) (c : ℕ) (word : WordAddr) → own_lock w c word ≡ true → lock_at w word.0 < w.top.locks

@@ -1,6 +1,5 @@
 -- Where each hart has one lock message or place in a queue exactly where it asked, lock messages find a case of their row; and so does each message.
 use Rattle.std.proofs.Common.{◌≡◌, ℕ, ◌+◌, ◌≤◌, ◌<◌, ◌==◌, ◌&&◌, Bool, true, false, cond, nat_lt, Some, List, [], ◌∷◌, length, refl, sym, ap, subst, arith, inl, inr, ◌⊎◌}
-use Rattle.std.proofs.lemmas.Bool.Decides.{nat_tests}
 use Rattle.dash_base.specs.declared.id.ClusterId.{ClusterId}
 use Rattle.dash_base.specs.declared.id.HartId.{HartId}
 use Rattle.dash_base.specs.declared.id.WordAddr.{WordAddr}
@@ -20,11 +19,11 @@ use Rattle.dash_model.specs.HartRows.{HartEffect}
 use Rattle.dash_model.specs.LockRows.{own_queue, waiting}
 use Rattle.dash_model.specs.Ranges.{has_hart, own_lock, in_range}
 use Rattle.dash_model.specs.Guard.{Guard, frees}
-use Rattle.dash_model.specs.OnLine.{one}
 use Rattle.dash_model.specs.LineFacts.{IsOnItsWay}
 use Rattle.dash_model.specs.LockFacts.{queue_of, of_hart, places_of, asking}
 use Rattle.dash_model.specs.Machine.{Machine, Step, taken, AtHead, CanHappen, Reaches}
 use Rattle.dash_model.specs.Cases.{FindsCase, TakesWell}
+use Rattle.dash_model.proofs.Tests.{is_same, below, is_below, both_left, both_right, one_same, at_most_one}
 use Rattle.dash_model.proofs.Weigh.{cut}
 use Rattle.dash_model.proofs.LockRange.{locks_fit}
 use Rattle.dash_model.proofs.InRange.{in_range_all}
@@ -45,30 +44,6 @@ unfolding head
 on_its_way a b k q [] e = absurd (cc)
 on_its_way a b k q (p ∷ ps) e = head_by a b k q p ps (in_lane a b k p) e (on_its_way a b k q ps)
 
-one_self : (c : ℕ) → one c c ≡ 1
-one_self c = grind (arith, nat_tests)
-
-both_left : (a b : Bool) → a && b ≡ true → a ≡ true
-both_left true b e = refl
-both_left false b e = absurd (cc)
-
-both_right : (a b : Bool) → a && b ≡ true → b ≡ true
-both_right true b e = e
-both_right false b e = absurd (cc)
-
-is_same : (a b : ℕ) → (a == b) ≡ true → a ≡ b
-is_same a b e = grind (arith, nat_tests)
-
-is_below : (a n : ℕ) → nat_lt a n ≡ true → a < n
-is_below a n e = grind (arith, nat_tests)
-
-below : (a n : ℕ) → a < n → nat_lt a n ≡ true
-below a n l = grind (arith, nat_tests)
-
-asked_most : (b : Bool) → cond b 1 0 ≤ 1
-asked_most true = omega arith
-asked_most false = omega arith
-
 asked_true : (b : Bool) (n : ℕ) → 1 ≤ n → n ≤ cond b 1 0 → b ≡ true
 asked_true true n l e = refl
 asked_true false n l e = absurd (omega arith)
@@ -79,7 +54,7 @@ module _ (w : Config) (log : List Event) (m : Machine) (c f u : ℕ) (r : Reache
   only h x first is =
       let n = cut f c (class_of x) (parcel f c x u) m.net first (of_hart h) in
       let e = k h in
-      let most = asked_most ((m.parts (cluster_of w h)).harts h).asked in
+      let most = at_most_one ((m.parts (cluster_of w h)).harts h).asked in
       (omega arith, asked_true ((m.parts (cluster_of w h)).harts h).asked (weigh (of_hart h) m.net) (omega arith) (omega arith))
 
   own_less_by : (i : ℕ) (b : Bool) → (lock_home w i == c) ≡ b → cond b (length ((m.parts c).locks i).queue) 0 ≤ length (queue_of w m i)
@@ -89,7 +64,7 @@ module _ (w : Config) (log : List Event) (m : Machine) (c f u : ℕ) (r : Reache
   -- the queues of this home have room for one waiter more
   has_room : (h : ℕ) → h < all_harts w → places_of w m h ≡ 0 → nat_lt (waiting w c (m.parts c)) (all_harts w) ≡ true
   has_room h low none =
-      let all = fewer_wait w (queue_of w m) w.top.locks h low (λ i. (locks_fit w log m r).queues (lock_home w i) i) (λ x. (let e = k x in let most = asked_most ((m.parts (cluster_of w x)).harts x).asked in omega arith)) none in
+      let all = fewer_wait w (queue_of w m) w.top.locks h low (λ i. (locks_fit w log m r).queues (lock_home w i) i) (λ x. (let e = k x in let most = at_most_one ((m.parts (cluster_of w x)).harts x).asked in omega arith)) none in
       let own = total_le (own_queue w c (m.parts c)) (λ i. length (queue_of w m i)) w.top.locks (λ i l. own_less_by i (lock_home w i == c) refl) in
       below (waiting w c (m.parts c)) (all_harts w) (omega arith)
 
@@ -98,10 +73,10 @@ module _ (w : Config) (log : List Event) (m : Machine) (c f u : ℕ) (r : Reache
 
   -- each message that is taken finds a case
   pub finds : (x : Msg) → head f c (class_of x) m.net ≡ Some (parcel f c x u) → in_range w c x ≡ true → ((h : HartId) (n : ℕ) (word : WordAddr) → x ≡ Unlock h n word → ⊥) → FindsCase w c f x (m.parts c)
-  finds (LockAsk h n word v) first e other = record { range = e; room = has_room h.0 (is_below h.0 (all_harts w) (both_left (has_hart w h) (own_lock w c word) e)) (only h.0 (LockAsk h n word v) first (one_self h.0)).0; case = refl }
+  finds (LockAsk h n word v) first e other = record { range = e; room = has_room h.0 (is_below h.0 (all_harts w) (both_left (has_hart w h) (own_lock w c word) e)) (only h.0 (LockAsk h n word v) first (one_same h.0)).0; case = refl }
   finds (Unlock h n word) first e other = absurd (other h n word refl)
-  finds (LockGrant h) first e other = record { range = e; room = refl; case = answered_there h (LockGrant h) first (one_self h.0) e }
-  finds (UnlockAck h old) first e other = record { range = e; room = refl; case = answered_there h (UnlockAck h old) first (one_self h.0) e }
+  finds (LockGrant h) first e other = record { range = e; room = refl; case = answered_there h (LockGrant h) first (one_same h.0) e }
+  finds (UnlockAck h old) first e other = record { range = e; room = refl; case = answered_there h (UnlockAck h old) first (one_same h.0) e }
   finds x first e other = line_finds w log m c f u r x tt first e
 
 -- an Unlock in range is not left to a Take

@@ -1,5 +1,5 @@
 -- In every run the count of a lock word is how often it was granted or freed.
-use Rattle.std.proofs.Common.{◌≡◌, ◌≢◌, ℕ, ◌+◌, ◌*◌, ◌≤◌, ◌<◌, ◌==◌, ◌&&◌, Bool, true, false, cond, nat_lt, List, [], ◌∷◌, ◌++◌, map, sum_by, refl, sym, ap, ◌∙◌, subst, arith}
+use Rattle.std.proofs.Common.{◌≡◌, ℕ, ◌+◌, ◌*◌, ◌≤◌, ◌<◌, ◌==◌, Bool, true, false, cond, List, [], ◌∷◌, ◌++◌, map, sum_by, refl, sym, ap, ◌∙◌, subst, arith}
 use Rattle.std.proofs.lemmas.Bool.Decides.{nat_tests}
 use Rattle.std.proofs.lemmas.List.Sums.{sum_by_push}
 use Rattle.std.proofs.Math.Nat.{mul-suc, le-mul_of_pos_right}
@@ -28,6 +28,7 @@ use Rattle.dash_model.specs.Coherent.{ServesLock, lock_uses}
 use Rattle.dash_model.specs.Cases.{TakesWell}
 use Rattle.dash_model.specs.LockFacts.{of_hart_msg, of_hart, AllAreHarts, uses_of, LocksAreCounted, LockUsesAreNumbered}
 use Rattle.dash_model.specs.Machine.{Machine, Step, taken, AtHead, less, CanHappen, after, opening, Reaches}
+use Rattle.dash_model.proofs.Tests.{is_same, not_same, is_below, both_left, both_right, at_most_one}
 use Rattle.dash_model.proofs.Weigh.{weigh-append, cut}
 use Rattle.dash_model.proofs.Totals.{total_add, total_same, total_one, total_bound}
 use Rattle.dash_model.proofs.Prefix.{events_happen}
@@ -77,20 +78,6 @@ less_weight h c u (kind.Take f m) net first = ap (λ y. weigh (answers h) (less 
 less_weight h c u (kind.Free f a) net first = cut f.0 c Request (parcel f.0 c (Unlock a.hart a.number a.word) u) net first (answers h)
 less_weight h c u _ net first = omega arith
 
-is_same : (a b : ℕ) → (a == b) ≡ true → a ≡ b
-is_same a b e = grind (arith, nat_tests)
-
-not_same : (a b : ℕ) → (a == b) ≡ false → a ≢ b
-not_same a b e = grind (arith, nat_tests)
-
-both_left : (a b : Bool) → a && b ≡ true → a ≡ true
-both_left true b e = refl
-both_left false b e = absurd (cc)
-
-both_right : (a b : Bool) → a && b ≡ true → b ≡ true
-both_right true b e = e
-both_right false b e = absurd (cc)
-
 -- the hart retires where it is answered
 retires_by : (w : Config) (log : List Event) (m : Machine) (c : ℕ) (e : Kind) (d : HartEffect) (h : ℕ) (q : Part) (b : Bool) → (cluster_of w h == c) ≡ b → q.harts ≡ (row w c e d (m.parts c)).part.harts → Reaches w log m → Guard w c e d (m.parts c) → TakesWell w c e (m.parts c)
     → ((m.parts (cluster_of w h)).harts h).core.retired + answers_now e h ≤ ((cond b q (m.parts (cluster_of w h))).harts h).core.retired
@@ -102,15 +89,8 @@ retires_by w log m c e d h q true is harts r can well =
 retires_by w log m c e d h q false is harts r can well = let z = (idle_elsewhere w c e d (m.parts c) h can well (not_same (cluster_of w h) c is)).1 in omega arith
 
 -- whom an event serves is a hart of the machine
-one_use : (b : Bool) → cond b 1 0 ≤ 1
-one_use true = omega arith
-one_use false = omega arith
-
 first_is_hart : (w : Config) (q : List Waiter) (x : Waiter) (xs : List Waiter) → q ≡ x ∷ xs → AllAreHarts w q → x.hart < all_harts w
 first_is_hart w q x xs is h = (subst (AllAreHarts w) is h).0
-
-is_below : (a n : ℕ) → nat_lt a n ≡ true → a < n
-is_below a n e = grind (arith, nat_tests)
 
 uses_some : (w : Config) (c : ℕ) (e : Kind) (d : HartEffect) (p : Part) (word : WordAddr) → Guard w c e d p → ((i : ℕ) → AllAreHarts w (p.locks i).queue) → lock_uses word e ≤ total (λ h. serves e h) (all_harts w)
 unfolding Guard
@@ -118,11 +98,11 @@ uses_some w c (kind.Grant a) d p word can harts =
     let mine = grants_to w can.waiter.hart can.waiter.number can.waiter.value 0 a.word a can.access.made in
     let low = first_is_hart w (p.locks (lock_at w a.word.0)).queue can.waiter can.others can.queue (harts (lock_at w a.word.0)) in
     let all = total_one a.hart.0 (all_harts w) (subst (λ y. y < all_harts w) (sym mine) low) in
-    let most = one_use (a.word.0 == word.0) in
+    let most = at_most_one (a.word.0 == word.0) in
     omega arith
 uses_some w c (kind.Free f a) d p word can harts =
     let all = total_one a.hart.0 (all_harts w) (is_below a.hart.0 (all_harts w) (both_left (has_hart w a.hart) (own_lock w c a.word) can.serves)) in
-    let most = one_use (a.word.0 == word.0) in
+    let most = at_most_one (a.word.0 == word.0) in
     omega arith
 uses_some w c _ d p word can harts = omega arith
 
@@ -156,17 +136,13 @@ record Counts (w : Config) (log : List Event) (m : Machine) : Type 0 where
   pub words : (word : WordAddr) → is_lock w word.0 ≡ true → uses_of word log ≤ total (λ h. served_in h log) (all_harts w)
   pub counts : (word : WordAddr) → is_lock w word.0 ≡ true → ((m.parts (lock_home w (lock_at w word.0))).locks (lock_at w word.0)).count ≡ uses_of word log
 
-asked_most : (b : Bool) → cond b 1 0 ≤ 1
-asked_most true = omega arith
-asked_most false = omega arith
-
 -- each hart is served at most once more than it may retire
 served_most : (w : Config) (log : List Event) (m : Machine) → Reaches w log m → Counts w log m → (h : ℕ) → served_in h log ≤ w.top.budget + 1
 served_most w log m r k h =
     let harts = k.harts h in
     let retired = retired_in_budget w log m r (cluster_of w h) h in
     let whole = one_each w log m r h in
-    let few = asked_most ((m.parts (cluster_of w h)).harts h).asked in
+    let few = at_most_one ((m.parts (cluster_of w h)).harts h).asked in
     let less = answers_le h m.net in
     omega arith
 

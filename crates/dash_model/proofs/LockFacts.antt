@@ -1,6 +1,5 @@
 -- In every run each hart whose lock instruction was sent has one lock message on its way or one place in a queue, and another hart none; so each message finds a case.
-use Rattle.std.proofs.Common.{◌≡◌, ◌≢◌, ℕ, ◌+◌, ◌==◌, ◌&&◌, Bool, true, false, cond, List, [], ◌∷◌, map, refl, sym, ap, ◌∙◌, arith}
-use Rattle.std.proofs.lemmas.Bool.Decides.{nat_tests}
+use Rattle.std.proofs.Common.{◌≡◌, ◌≢◌, ℕ, ◌+◌, ◌==◌, Bool, true, false, cond, List, [], ◌∷◌, map, refl, sym, ap, ◌∙◌, arith}
 use Rattle.dash_base.specs.declared.id.ClusterId.{ClusterId}
 use Rattle.dash_msg.specs.Classes.{class_of}
 use Rattle.dash_msg.specs.declared.classes.Class.TheVariants.{Request}
@@ -18,10 +17,10 @@ use Rattle.dash_model.specs.HartRows.{HartEffect}
 use Rattle.dash_model.specs.Guard.{Guard}
 use Rattle.dash_model.specs.Ranges.{has_hart}
 use Rattle.dash_model.specs.Row.{row}
-use Rattle.dash_model.specs.OnLine.{one}
 use Rattle.dash_model.specs.LockFacts.{of_hart, is_waiter, queue_of, places_of}
 use Rattle.dash_model.specs.Cases.{FindsCase, TakesWell, CasesApply}
 use Rattle.dash_model.specs.Machine.{Machine, Step, taken, AtHead, less, CanHappen, after, opening, Reaches}
+use Rattle.dash_model.proofs.Tests.{is_same, not_same, both_right, one_other}
 use Rattle.dash_model.proofs.Along.{changed}
 use Rattle.dash_model.proofs.Weigh.{weigh-append, cut}
 use Rattle.dash_model.proofs.Totals.{total_four, total_none}
@@ -29,19 +28,6 @@ use Rattle.dash_model.proofs.HartSteps.{asks_now, answers_now, Idle, HartStep, R
 use Rattle.dash_model.proofs.LockBalance.{takes_lock, sent_locks, own_at, own_places, balanced}
 use Rattle.dash_model.proofs.LockCases.{OneEach, takes_well}
 use Rattle.dash_model.proofs.InRuns.{in_runs}
-
-is_same : (a b : ℕ) → (a == b) ≡ true → a ≡ b
-is_same a b e = grind (arith, nat_tests)
-
-not_same : (a b : ℕ) → (a == b) ≡ false → a ≢ b
-not_same a b e = grind (arith, nat_tests)
-
-one_other : (k i : ℕ) → k ≢ i → one k i ≡ 0
-one_other k i d = grind (arith, nat_tests)
-
-both_right : (a b : Bool) → a && b ≡ true → b ≡ true
-both_right true b e = e
-both_right false b e = absurd (cc)
 
 -- 1 where the lock instruction was sent
 abbrev asked_now : Processor → ℕ

@@ -1,5 +1,5 @@
 -- Each lock message on its way is in range, and each waiter is a hart of the machine.
-use Rattle.std.proofs.Common.{◌≡◌, ℕ, ◌/◌, ◌<◌, ◌==◌, ◌&&◌, Bool, true, false, cond, nat_lt, Some, Option, None, List, [], ◌∷◌, ◌++◌, map, refl, sym, subst, arith}
+use Rattle.std.proofs.Common.{◌≡◌, ℕ, ◌/◌, ◌<◌, ◌==◌, ◌&&◌, Bool, true, false, cond, Some, Option, None, List, [], ◌∷◌, ◌++◌, map, refl, sym, subst, arith}
 use Rattle.std.specs.Prelude.{unwrap_or}
 use Rattle.std.proofs.lemmas.Bool.Decides.{nat_tests}
 use Rattle.std.proofs.Math.Nat.{div-lt_iff_lt-mul}
@@ -37,6 +37,7 @@ use Rattle.dash_model.specs.Row.{line_msg_row, msg_row, msg_row_if, row}
 use Rattle.dash_model.specs.OnLine.{is_of}
 use Rattle.dash_model.specs.LockFacts.{AllAreHarts}
 use Rattle.dash_model.specs.Machine.{Machine, Step, taken, less, CanHappen, after, Reaches}
+use Rattle.dash_model.proofs.Tests.{same, below, is_below, both, both_left}
 use Rattle.dash_model.proofs.Along.{AllAre}
 use Rattle.dash_model.proofs.Views.{IsNoTake}
 use Rattle.dash_model.proofs.RowsAlong.{act_sends, take_sends}
@@ -119,17 +120,6 @@ commit_fits : (w : Config) (h k : ℕ) (b : List Stored) (p : Part) → Queues w
 commit_fits w h k [] p q = record { sent = tt; queues = q }
 commit_fits w h k (x ∷ xs) p q = acts_fit w k (Commit h (written_in w x.word.0 x.mask x.value (content (p.cells k).copy))) (change h (record (p.harts h) { buffer = xs }) p) q
 
-below : (a n : ℕ) → a < n → nat_lt a n ≡ true
-below a n l = grind (arith, nat_tests)
-
-same : (c : ℕ) → (c == c) ≡ true
-same c = grind (arith, nat_tests)
-
-both : (a b : Bool) → a ≡ true → b ≡ true → a && b ≡ true
-both true true e f = refl
-both true false e f = f
-both false b e f = absurd (cc)
-
 -- a hart of a cluster of the machine is one of the machine
 pub hart_below : (w : Config) (h c : ℕ) → cluster_of w h ≡ c → c < w.top.clusters → h < all_harts w
 hart_below w h c mine b =
@@ -162,10 +152,6 @@ grant_fits w i (x ∷ xs) p h q = record {
   queues = λ k. one_queue w p i x.value _ xs q h.1 k (k == i);
 }
 
-both_left : (a b : Bool) → a && b ≡ true → a ≡ true
-both_left true b e = refl
-both_left false b e = absurd (cc)
-
 free_fits : (w : Config) (c i : ℕ) (h : HartId) (word : WordAddr) (p : Part) → has_hart w h && own_lock w c word ≡ true → Queues w p → Fits w (free_row w i h p)
 free_fits w c i h word p s q = record {
   sent = (both (has_hart w h) (cluster_of w h.0 == cluster_of w h.0) (both_left (has_hart w h) (own_lock w c word) s) (same (cluster_of w h.0)), tt);
@@ -196,9 +182,6 @@ takes_fit w c f l m p e q = record { sent = lines_fit w l.0 (take_row (first_pre
 more_harts : (w : Config) (xs : List Waiter) (x : Waiter) → AllAreHarts w xs → x.hart < all_harts w → AllAreHarts w (xs ++ x ∷ [])
 more_harts w [] x h b = (b, tt)
 more_harts w (y ∷ ys) x h b = (h.0, more_harts w ys x h.1 b)
-
-is_below : (a n : ℕ) → nat_lt a n ≡ true → a < n
-is_below a n e = grind (arith, nat_tests)
 
 answers_fit : (w : Config) (h : ℕ) (b : Bool) (d : HartEffect) (p : Part) → Queues w p → Fits w (quiet (answered h b d p))
 answers_fit w h true d p q = record { sent = tt; queues = q }

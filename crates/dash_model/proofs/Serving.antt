@@ -1,5 +1,5 @@
 -- What each event adds to the answers on their way to a hart, and to the count of a lock word.
-use Rattle.std.proofs.Common.{◌≡◌, ◌≢◌, ℕ, zero, suc, ◌+◌, ◌%◌, ◌≤◌, ◌==◌, ◌&&◌, Bool, true, false, cond, Option, Some, None, List, [], ◌∷◌, ◌++◌, refl, sym, ap, ◌∙◌, subst, arith}
+use Rattle.std.proofs.Common.{◌≡◌, ◌≢◌, ℕ, zero, suc, ◌+◌, ◌%◌, ◌≤◌, ◌==◌, Bool, true, false, cond, Option, Some, None, List, [], ◌∷◌, ◌++◌, refl, sym, ap, ◌∙◌, subst, arith}
 use Rattle.std.specs.Prelude.{unwrap_or}
 use Rattle.std.proofs.lemmas.Bool.Decides.{nat_tests}
 use Rattle.dash_base.specs.declared.id.ClusterId.{ClusterId}
@@ -32,6 +32,7 @@ use Rattle.dash_model.specs.Ranges.{has_hart, own_lock, applies}
 use Rattle.dash_model.specs.Row.{row, line_msg_row, msg_row, msg_row_if}
 use Rattle.dash_model.specs.OnLine.{is_of, one}
 use Rattle.dash_model.specs.Coherent.{lock_uses}
+use Rattle.dash_model.proofs.Tests.{same, is_same, differ, both_left, both_right}
 use Rattle.dash_model.proofs.Along.{AllAre}
 use Rattle.dash_model.proofs.RowsAlong.{act_sends, take_sends}
 
@@ -139,19 +140,6 @@ module _ (w : Config) (e : Kind) (h : ℕ) (word : WordAddr) (o : IsOther e) whe
   asked_still : (k : ℕ) (x : Waiter) (p : Part) → Serves w e h word p (quiet (queued k x p))
   asked_still k x p = still p (queued k x p) (queued_by k x p (lock_at w word.0 == k) ∙ same_count k (lock_at w word.0) p (lock_at w word.0 == k) refl)
 
-same : (k : ℕ) → (k == k) ≡ true
-same k = grind (arith, nat_tests)
-
-other_false : (i k : ℕ) → i ≢ k → (i == k) ≡ false
-other_false i k d = grind (arith, nat_tests)
-
-is_same : (a b : ℕ) → (a == b) ≡ true → a ≡ b
-is_same a b e = grind (arith, nat_tests)
-
-both_left : (a b : Bool) → a && b ≡ true → a ≡ true
-both_left true b e = refl
-both_left false b e = absurd (cc)
-
 -- two lock words of one number are one
 pub one_lock : (w : Config) (a b : ℕ) → is_lock w a ≡ true → is_lock w b ≡ true → lock_at w a ≡ lock_at w b → a ≡ b
 one_lock w a b i j e =
@@ -172,7 +160,7 @@ counted w a word p x true is i j n =
     ap (λ z. (cond z x (p.locks (lock_at w word.0))).count) hit ∙ n ∙ ap (λ y. raised most (p.locks y).count) (sym e)
 counted w a word p x false is i j n =
     let d : lock_at w word.0 ≢ lock_at w a.0 = λ e. (let s = one_lock w word.0 a.0 j i e in let t : (a.0 == word.0) ≡ true = grind (arith, nat_tests) in absurd (cc)) in
-    ap (λ z. (cond z x (p.locks (lock_at w word.0))).count) (other_false (lock_at w word.0) (lock_at w a.0) d)
+    ap (λ z. (cond z x (p.locks (lock_at w word.0))).count) (differ (lock_at w word.0) (lock_at w a.0) d)
 
 -- the access of a Grant is that of the waiter
 pub grants_to : (w : Config) (h number value old : ℕ) (word : WordAddr) (a : Access) → Some (unseen a) ≡ offered h number (needed.Ask word value) old true → a.hart.0 ≡ h
@@ -218,10 +206,6 @@ taken_msg w c f (UnlockAck t old) h word d p = answer_still w (kind.Take f (Unlo
 taken_if : (w : Config) (c : ℕ) (f : ClusterId) (m : Msg) (h : ℕ) (word : WordAddr) (d : HartEffect) (p : Part) (b : Bool) → Serves w (kind.Take f m) h word p (msg_row_if b w c f.0 m d p)
 taken_if w c f m h word d p true = taken_msg w c f m h word d p
 taken_if w c f m h word d p false = still w (kind.Take f m) h word tt p p refl
-
-both_right : (a b : Bool) → a && b ≡ true → b ≡ true
-both_right true b e = e
-both_right false b e = absurd (cc)
 
 word_of_lock : (w : Config) (c : ℕ) (word : WordAddr) → own_lock w c word ≡ true → is_lock w word.0 ≡ true
 word_of_lock w c word e = both_left (is_lock w word.0) (lock_home w (lock_at w word.0) == c) e

@@ -145,10 +145,10 @@ fits w l v c s i b some =
     let few = announced w.top.clusters c s.net b.net (omega arith) in
     got_small w.top.clusters (counting c s) (weigh (counts_to c) s.net) _ (s.cells c).slot (s.cells c).acks k.counts (omega arith) few (b.acks c) w.top.clusters_in_range.high
 
-pub below : (a n : ℕ) → a < n → nat_lt a n ≡ true
+below : (a n : ℕ) → a < n → nat_lt a n ≡ true
 below a n l = grind (arith, nat_tests)
 
-pub both : (a b : Bool) → a ≡ true → b ≡ true → a && b ≡ true
+both : (a b : Bool) → a ≡ true → b ≡ true → a && b ≡ true
 both true true e f = refl
 both true false e f = f
 both false b e f = absurd (cc)

@@ -6,6 +6,7 @@ use Rattle.dash_model.specs.Config.{Config, all_harts}
 use Rattle.dash_model.specs.Part.{Waiter}
 use Rattle.dash_model.specs.OnLine.{one}
 use Rattle.dash_model.specs.LockFacts.{AllAreHarts, is_waiter}
+use Rattle.dash_model.proofs.Tests.{one_same, one_other}
 
 pub total_four : (a b c d : ℕ → ℕ) (n : ℕ) → ((i : ℕ) → i < n → a i + b i ≡ c i + d i) → total a n + total b n ≡ total c n + total d n
 unfolding total
@@ -46,12 +47,6 @@ total_none f (suc n) h =
 
 last_or_below : (k n : ℕ) → k < suc n → (k ≡ n) ⊎ (k < n)
 last_or_below k n l = grind (arith, nat_tests)
-
-one_same : (k : ℕ) → one k k ≡ 1
-one_same k = grind (arith, nat_tests)
-
-one_other : (k i : ℕ) → k ≢ i → one k i ≡ 0
-one_other k i d = grind (arith, nat_tests)
 
 less_differs : (k i : ℕ) → i < k → k ≢ i
 less_differs k i l e = omega arith
