@@ -38,7 +38,8 @@ use Rattle.dash_model.proofs.HartSteps.{answers_now, hart_step}
 use Rattle.dash_model.proofs.LockFacts.{idle_elsewhere, one_each, cases_apply}
 use Rattle.dash_model.proofs.Retired.{retired_in_budget}
 use Rattle.dash_model.proofs.Asking.{ask_first, answers_retire}
-use Rattle.dash_model.proofs.Serving.{serves, answer_msg, sent_answers, raised_by, grants_to, served}
+use Rattle.dash_model.proofs.LockViews.{grants_to}
+use Rattle.dash_model.proofs.Serving.{serves, answer_msg, sent_answers, raised_by, served}
 
 -- how often the log serves hart h
 abbrev served_in : ℕ → List Event → ℕ
@@ -95,7 +96,7 @@ first_is_hart w q x xs is h = (subst (AllAreHarts w) is h).0
 uses_some : (w : Config) (c : ℕ) (e : Kind) (d : HartEffect) (p : Part) (word : WordAddr) → Guard w c e d p → ((i : ℕ) → AllAreHarts w (p.locks i).queue) → lock_uses word e ≤ total (λ h. serves e h) (all_harts w)
 unfolding Guard
 uses_some w c (kind.Grant a) d p word can harts =
-    let mine = grants_to w can.waiter.hart can.waiter.number can.waiter.value 0 a.word a can.access.made in
+    let mine = grants_to can.waiter.hart can.waiter.number can.waiter.value 0 a.word a can.access.made in
     let low = first_is_hart w (p.locks (lock_at w a.word.0)).queue can.waiter can.others can.queue (harts (lock_at w a.word.0)) in
     let all = total_one a.hart.0 (all_harts w) (subst (λ y. y < all_harts w) (sym mine) low) in
     let most = at_most_one (a.word.0 == word.0) in
@@ -176,20 +177,20 @@ counts_step w log m g r can k =
     let well = cases_apply w log m g r can in
     record {
       harts = λ h. (
-        let more = sum_by_push (λ (x : Event). serves x.kind h) log g.event in
-        let before = k.harts h in
-        let sent = send_weight h g.event.stamp c rest d.sent in
-        let left = less_weight h c g.stamp e m.net can.head in
-        let retired = retires_by w log m c e g.done h q (cluster_of w h == c) refl refl r can.steps.guard well in
-        let new = (served w c e g.done (m.parts c) h (record { 0 = 0 }) can.steps.guard).sent in
-        omega arith);
+          let more = sum_by_push (λ (x : Event). serves x.kind h) log g.event in
+          let before = k.harts h in
+          let sent = send_weight h g.event.stamp c rest d.sent in
+          let left = less_weight h c g.stamp e m.net can.head in
+          let retired = retires_by w log m c e g.done h q (cluster_of w h == c) refl refl r can.steps.guard well in
+          let new = (served w c e g.done (m.parts c) h (record { 0 = 0 }) can.steps.guard).sent in
+          omega arith);
       words = λ word i. (
-        let more = sum_by_push (λ (x : Event). lock_uses word x.kind) log g.event in
-        let split = total_same (λ h. served_in h (log ++ g.event ∷ [])) (λ h. served_in h log + serves e h) (all_harts w) (λ h l. sum_by_push (λ (x : Event). serves x.kind h) log g.event) in
-        let add = total_add (λ h. served_in h log) (λ h. serves e h) (all_harts w) in
-        let some = uses_some w c e g.done (m.parts c) word can.steps.guard ((locks_fit w log m r).queues c) in
-        let before = k.words word i in
-        omega arith);
+          let more = sum_by_push (λ (x : Event). lock_uses word x.kind) log g.event in
+          let split = total_same (λ h. served_in h (log ++ g.event ∷ [])) (λ h. served_in h log + serves e h) (all_harts w) (λ h l. sum_by_push (λ (x : Event). serves x.kind h) log g.event) in
+          let add = total_add (λ h. served_in h log) (λ h. serves e h) (all_harts w) in
+          let some = uses_some w c e g.done (m.parts c) word can.steps.guard ((locks_fit w log m r).queues c) in
+          let before = k.words word i in
+          omega arith);
       counts = λ word i. count_by w m c e g.done q word (uses_of word log) (lock_home w (lock_at w word.0) == c) refl refl can.steps.guard i (below_most w (uses_of word log) (used_most w log m r k word i)) (k.counts word i) ∙ sym (sum_by_push (λ (x : Event). lock_uses word x.kind) log g.event);
     }
 
