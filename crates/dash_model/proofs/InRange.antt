@@ -22,12 +22,8 @@ use Rattle.dash_model.proofs.Along.{along}
 use Rattle.dash_model.proofs.Taken.{line_in, home_in}
 use Rattle.dash_model.proofs.Reached.{each_reached}
 use Rattle.dash_model.proofs.Nowhere.{nowhere}
-use Rattle.dash_model.proofs.LockRange.{LockFits, AllFit, locks_fit}
-
-fit_member : (w : Config) (q : Packet) (net : List Packet) → IsOnItsWay q net → AllFit w net → LockFits w q.dst q.msg
-fit_member w q [] i h = absurd i
-fit_member w q (p ∷ ps) (inl e) h = subst (λ (y : Packet). LockFits w y.dst y.msg) (sym e) h.0
-fit_member w q (p ∷ ps) (inr i) h = fit_member w q ps i h.1
+use Rattle.dash_model.proofs.Each.{each_member}
+use Rattle.dash_model.proofs.LockRange.{LockFits, locks_fit}
 
 named_member : (n : ℕ) (q : Packet) (net : List Packet) → IsOnItsWay q net → AllNamed n net → (q.src < n) × Named n q.msg
 named_member n q [] i h = absurd i
@@ -102,15 +98,15 @@ by_msg w log m a b u (Inval l t) r o = of_line w log m (parcel a b (Inval l t) u
 by_msg w log m a b u (WriteBack l d) r o = of_line w log m (parcel a b (WriteBack l d) u) l.0 (same l.0) r o
 by_msg w log m a b u (SharingBack l d t) r o = of_line w log m (parcel a b (SharingBack l d t) u) l.0 (same l.0) r o
 by_msg w log m a b u (Transfer l t) r o = of_line w log m (parcel a b (Transfer l t) u) l.0 (same l.0) r o
-by_msg w log m a b u (LockAsk h n word v) r o = fit_member w (parcel a b (LockAsk h n word v) u) m.net o (locks_fit w log m r).net
-by_msg w log m a b u (Unlock h n word) r o = fit_member w (parcel a b (Unlock h n word) u) m.net o (locks_fit w log m r).net
+by_msg w log m a b u (LockAsk h n word v) r o = each_member (LockFits w) (parcel a b (LockAsk h n word v) u) m.net o (locks_fit w log m r).net
+by_msg w log m a b u (Unlock h n word) r o = each_member (LockFits w) (parcel a b (Unlock h n word) u) m.net o (locks_fit w log m r).net
 by_msg w log m a b u (Data l d) r o = of_line w log m (parcel a b (Data l d) u) l.0 (same l.0) r o
 by_msg w log m a b u (DataEx l d n) r o = of_line w log m (parcel a b (DataEx l d n) u) l.0 (same l.0) r o
 by_msg w log m a b u (Ack l) r o = of_line w log m (parcel a b (Ack l) u) l.0 (same l.0) r o
 by_msg w log m a b u (TransferAck l) r o = of_line w log m (parcel a b (TransferAck l) u) l.0 (same l.0) r o
 by_msg w log m a b u (Nak l) r o = of_line w log m (parcel a b (Nak l) u) l.0 (same l.0) r o
-by_msg w log m a b u (LockGrant h) r o = fit_member w (parcel a b (LockGrant h) u) m.net o (locks_fit w log m r).net
-by_msg w log m a b u (UnlockAck h old) r o = fit_member w (parcel a b (UnlockAck h old) u) m.net o (locks_fit w log m r).net
+by_msg w log m a b u (LockGrant h) r o = each_member (LockFits w) (parcel a b (LockGrant h) u) m.net o (locks_fit w log m r).net
+by_msg w log m a b u (UnlockAck h old) r o = each_member (LockFits w) (parcel a b (UnlockAck h old) u) m.net o (locks_fit w log m r).net
 
 pub in_range_all : MessagesAreInRange
 in_range_all w log m q r o = by_msg w log m q.src q.dst q.stamp q.msg r o

@@ -39,6 +39,7 @@ pub mod Numbered
 pub mod Tests
 pub mod InRuns
 pub mod Nowhere
+pub mod Each
 pub mod LockViews
 pub mod LockRange
 pub mod InRange

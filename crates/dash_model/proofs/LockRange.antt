@@ -1,11 +1,9 @@
 -- Each lock message on its way is in range, and each waiter is a hart of the machine.
-use Rattle.std.proofs.Common.{◌≡◌, ℕ, ◌/◌, ◌<◌, ◌==◌, ◌&&◌, Bool, true, false, cond, List, [], ◌∷◌, ◌++◌, map, sym, subst, arith}
+use Rattle.std.proofs.Common.{◌≡◌, ℕ, ◌/◌, ◌<◌, ◌==◌, ◌&&◌, Bool, true, false, cond, List, [], ◌∷◌, ◌++◌, sym, subst, arith}
 use Rattle.std.proofs.lemmas.Bool.Decides.{nat_tests}
 use Rattle.std.proofs.Math.Nat.{div-lt_iff_lt-mul}
 use Rattle.dash_base.specs.declared.id.HartId.{HartId}
 use Rattle.dash_base.specs.declared.id.WordAddr.{WordAddr}
-use Rattle.dash_msg.specs.Classes.{class_of}
-use Rattle.dash_msg.specs.declared.classes.Class.{Class}
 use Rattle.dash_msg.specs.declared.msg.Msg.{Msg}
 use Rattle.dash_msg.specs.declared.msg.Msg.TheVariants.{LockAsk, Unlock, LockGrant, UnlockAck}
 use Rattle.dash_msg.specs.declared.parcel.Sent.{Sent}
@@ -17,7 +15,6 @@ use Rattle.dash_base.specs.declared.need.Need.{Need}
 use Rattle.dash_base.specs.declared.need.Need.TheVariants as needed
 use Rattle.hart_core.proofs.LawsOffered.{proper}
 use Rattle.dash_model.specs.Config.{Config, hart_id, all_harts, cluster_of, is_lock, lock_at, lock_home}
-use Rattle.dash_model.specs.Net.{Packet, packet, in_lane, tail, send}
 use Rattle.dash_model.specs.Part.{Waiter, Lock, Part}
 use Rattle.dash_model.specs.HartRows.{PartEffect, quiet, lock_target}
 use Rattle.dash_model.specs.LockRows.{grant_row, free_row, queued}
@@ -29,6 +26,7 @@ use Rattle.dash_model.specs.LockFacts.{AllAreHarts}
 use Rattle.dash_model.specs.Machine.{Machine, Step, taken, less, CanHappen, after, Reaches}
 use Rattle.dash_model.proofs.Tests.{same, below, is_below, both, both_left}
 use Rattle.dash_model.proofs.Along.{AllAre}
+use Rattle.dash_model.proofs.Each.{Each, EachSent, less_each, send_each}
 use Rattle.dash_model.proofs.LockViews.{LockView, Plain, Sends, Grants, Frees, Waits, Granted, Freed, Drops, lock_view}
 use Rattle.dash_model.proofs.InRuns.{in_runs}
 
@@ -40,41 +38,6 @@ LockFits w c (LockGrant h) = in_range w c (LockGrant h) ≡ true
 LockFits w c (UnlockAck h old) = in_range w c (UnlockAck h old) ≡ true
 LockFits w c m = Unit {0}
 
--- each on its way is
-abbrev pub AllFit : Config → List Packet → Type 0
-AllFit w [] = Unit {0}
-AllFit w (p ∷ ps) = LockFits w p.dst p.msg × AllFit w ps
-
--- each that is sent is
-abbrev SentFit : Config → List Sent → Type 0
-SentFit w [] = Unit {0}
-SentFit w (s ∷ ss) = LockFits w s.to.0 s.msg × SentFit w ss
-
-tail_by : (w : Config) (p : Packet) (ps ts : List Packet) (i : Bool) → AllFit w (p ∷ ps) → AllFit w ts → AllFit w (cond i ps (p ∷ ts))
-tail_by w p ps ts true h t = h.1
-tail_by w p ps ts false h t = (h.0, t)
-
-tail_fits : (w : Config) (a b : ℕ) (k : Class) (net : List Packet) → AllFit w net → AllFit w (tail a b k net)
-unfolding tail
-tail_fits w a b k [] h = tt
-tail_fits w a b k (p ∷ ps) h = tail_by w p ps (tail a b k ps) (in_lane a b k p) h (tail_fits w a b k ps h.1)
-
-less_fits : (w : Config) (ts net : List Packet) → AllFit w net → AllFit w (less ts net)
-less_fits w [] net h = h
-less_fits w (q ∷ qs) net h = tail_fits w q.src q.dst (class_of q.msg) net h
-
-append_fits : (w : Config) (xs ys : List Packet) → AllFit w xs → AllFit w ys → AllFit w (xs ++ ys)
-append_fits w [] ys h k = k
-append_fits w (x ∷ xs) ys h k = (h.0, append_fits w xs ys h.1 k)
-
-packets_fit : (w : Config) (t a : ℕ) (ss : List Sent) → SentFit w ss → AllFit w (map (packet t a) ss)
-packets_fit w t a [] h = tt
-packets_fit w t a (s ∷ ss) h = (h.0, packets_fit w t a ss h.1)
-
-send_fits : (w : Config) (t a : ℕ) (net : List Packet) (ss : List Sent) → AllFit w net → SentFit w ss → AllFit w (send net t a ss)
-unfolding send
-send_fits w t a net ss h k = append_fits w net (map (packet t a) ss) h (packets_fit w t a ss k)
-
 -- messages of lines
 line_fits : (w : Config) (c k : ℕ) (m : Msg) → is_of k m ≡ true → LockFits w c m
 line_fits w c k (LockAsk h n word v) e = absurd (cc)
@@ -83,13 +46,13 @@ line_fits w c k (LockGrant h) e = absurd (cc)
 line_fits w c k (UnlockAck h old) e = absurd (cc)
 line_fits w c k _ e = tt
 
-lines_fit : (w : Config) (k : ℕ) (ss : List Sent) → AllAre k true ss → SentFit w ss
+lines_fit : (w : Config) (k : ℕ) (ss : List Sent) → AllAre k true ss → EachSent (LockFits w) ss
 lines_fit w k [] h = tt
 lines_fit w k (s ∷ ss) h = (line_fits w s.to.0 k s.msg h.0, lines_fit w k ss h.1)
 
 -- what a row sends, and leaves in its queues
 pub record Fits (w : Config) (d : PartEffect) : Type 0 where
-  pub sent : SentFit w d.sent
+  pub sent : EachSent (LockFits w) d.sent
   pub queues : (i : ℕ) → AllAreHarts w (d.part.locks i).queue
 
 -- each queue of a part has harts of the machine
@@ -162,7 +125,7 @@ view_fits w c p _ _ b q (Drops f m k) = record { sent = tt; queues = q }
 
 -- all lock messages are in range, and all waiters harts of the machine
 pub record LocksFit (w : Config) (m : Machine) : Type 0 where
-  pub net : AllFit w m.net
+  pub net : Each (LockFits w) m.net
   pub queues : (c : ℕ) → Queues w (m.parts c)
 
 either : (w : Config) (q p : Part) (b : Bool) → Queues w q → Queues w p → Queues w (cond b q p)
@@ -175,7 +138,7 @@ fits_step w log m g r can k =
     let d = row w c g.event.kind g.done (m.parts c) in
     let s = view_fits w c (m.parts c) g.event.kind d can.cluster (k.queues c) (lock_view w c g.event.kind g.done (m.parts c) can.steps.guard) in
     record {
-      net = send_fits w g.event.stamp c (less (taken c g.stamp g.event.kind) m.net) d.sent (less_fits w (taken c g.stamp g.event.kind) m.net k.net) s.sent;
+      net = send_each (LockFits w) g.event.stamp c (less (taken c g.stamp g.event.kind) m.net) d.sent (less_each (LockFits w) (taken c g.stamp g.event.kind) m.net k.net) s.sent;
       queues = λ x. either w (record d.part { last = g.event.stamp }) (m.parts x) (x == c) s.queues (k.queues x);
     }
 
