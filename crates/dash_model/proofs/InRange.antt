@@ -11,7 +11,6 @@ use Rattle.dash_model.specs.Net.{Packet, parcel}
 use Rattle.dash_model.specs.OnLine.{is_of, on}
 use Rattle.dash_model.specs.Ranges.{has_line, has_cluster, at_home, in_range}
 use Rattle.dash_model.specs.LineFacts.{IsOnItsWay}
-use Rattle.dash_model.specs.LockFacts.{MessagesAreInRange}
 use Rattle.dash_model.specs.Machine.{Machine, Reaches}
 use Rattle.dash_model.proofs.Tests.{same, below, both}
 use Rattle.dash_model.proofs.LineState.{State}
@@ -74,7 +73,7 @@ range_by w l v a b u (Nak k) s low e o i n = line_in w k l e low
 range_by w l v a b u (LockGrant h) s low e o i n = absurd (cc)
 range_by w l v a b u (UnlockAck h old) s low e o i n = absurd (cc)
 
-in_or_out : (l n : ℕ) → (l < n) ⊎ (n ≤ l)
+pub in_or_out : (l n : ℕ) → (l < n) ⊎ (n ≤ l)
 in_or_out l n = grind arith
 
 none_there : (q : Packet) (net : List Packet) → net ≡ [] → IsOnItsWay q net → ⊥
@@ -108,5 +107,5 @@ by_msg w log m a b u (Nak l) r o = of_line w log m (parcel a b (Nak l) u) l.0 (s
 by_msg w log m a b u (LockGrant h) r o = each_member (LockFits w) (parcel a b (LockGrant h) u) m.net o (locks_fit w log m r).net
 by_msg w log m a b u (UnlockAck h old) r o = each_member (LockFits w) (parcel a b (UnlockAck h old) u) m.net o (locks_fit w log m r).net
 
-pub in_range_all : MessagesAreInRange
+pub in_range_all : (w : Config) (log : List Event) (m : Machine) (q : Packet) → Reaches w log m → IsOnItsWay q m.net → in_range w q.dst q.msg ≡ true
 in_range_all w log m q r o = by_msg w log m q.src q.dst q.stamp q.msg r o

@@ -53,6 +53,7 @@ pub mod Retired
 pub mod Asking
 pub mod Serving
 pub mod LockCounts
+pub mod Targets
 pub mod TableCode
 pub mod TableCells
 pub mod TableHarts

@@ -56,7 +56,7 @@ pub record Fits (w : Config) (d : PartEffect) : Type 0 where
   pub queues : (i : ℕ) → AllAreHarts w (d.part.locks i).queue
 
 -- each queue of a part has harts of the machine
-abbrev Queues : Config → Part → Type 0
+abbrev pub Queues : Config → Part → Type 0
 Queues w p = (i : ℕ) → AllAreHarts w (p.locks i).queue
 
 -- a hart of a cluster of the machine is one of the machine

@@ -33,7 +33,6 @@ use Rattle.dash_model.specs.Guard.{Guard}
 use Rattle.dash_model.specs.Ranges.{applies}
 use Rattle.dash_model.specs.Row.{row}
 use Rattle.dash_model.specs.OnLine.{is_of, on}
-use Rattle.dash_model.specs.LockFacts.{LinesAreOfMemory}
 use Rattle.dash_model.specs.Machine.{Machine, Step, taken, AtHead, less, CanHappen, after, opening, Reaches}
 use Rattle.dash_model.proofs.Along.{AllAre, all_other, on-send-none, on-head, on-tail-off}
 use Rattle.dash_model.proofs.RowsAlong.{act_sends}
@@ -175,7 +174,7 @@ pub record IsNowhere (l : ℕ) (m : Machine) : Type 0 where
   pub cells : (c : ℕ) → IsEmpty ((m.parts c).cells l)
   pub net : on l m.net ≡ []
 
-none_first : (a b : ℕ) (k : Class) (q : Packet) (net : List Packet) → net ≡ [] → head a b k net ≡ Some q → ⊥
+pub none_first : (a b : ℕ) (k : Class) (q : Packet) (net : List Packet) → net ≡ [] → head a b k net ≡ Some q → ⊥
 unfolding head
 none_first a b k q [] e h = cc
 none_first a b k q (x ∷ xs) e h = cc
@@ -218,6 +217,3 @@ opening_nowhere w l = record { cells = λ c. (refl, refl); net = refl }
 
 pub nowhere : (w : Config) (log : List Event) (m : Machine) → Reaches w log m → (l : ℕ) → lines w ≤ l → IsNowhere l m
 nowhere w log m r l out = in_runs w (λ es n. IsNowhere l n) (opening_nowhere w l) (λ es n g reached can k. nowhere_step w es n g l out reached can k) log m r
-
-pub lines_are_of_memory : LinesAreOfMemory
-lines_are_of_memory w log m l c out r = (nowhere w log m r l out).cells c

@@ -1,5 +1,5 @@
 -- What every run keeps of messages, waiters and lock words.
-use Rattle.std.specs.Prelude.{◌≡◌, ℕ, ◌+◌, ◌*◌, ◌<◌, ◌≤◌, true, cond, List, [], ◌∷◌, ◌++◌, sum_by}
+use Rattle.std.specs.Prelude.{◌≡◌, ◌⊎◌, ℕ, ◌+◌, ◌*◌, ◌<◌, ◌≤◌, true, cond, List, [], ◌∷◌, ◌++◌, sum_by}
 use Rattle.dash_base.specs.declared.id.WordAddr.{WordAddr}
 use Rattle.dash_msg.specs.declared.msg.Msg.{Msg}
 use Rattle.dash_msg.specs.declared.msg.Msg.TheVariants.{LockAsk, Unlock as UnlockMsg, LockGrant, UnlockAck}
@@ -21,13 +21,13 @@ use Rattle.dash_model.specs.Ranges.{in_range}
 use Rattle.dash_model.specs.LineFacts.{cell_at, IsOnItsWay}
 use Rattle.dash_model.specs.Machine.{Machine, IsRun, Reaches}
 
--- each message on its way is of a line of memory or of a lock word, and its numbers are in range for the cluster that it goes to: its line or word is at home there where its row wants that, and the clusters and harts that it names exist
+-- each message on its way goes to a cluster of the machine, is of a line of memory or of a lock word, and its numbers are in range for the cluster that it goes to: its line or word is at home there where its row wants that, and the clusters and harts that it names exist
 abbrev pub MessagesAreInRange : Type 0
-MessagesAreInRange = (w : Config) (log : List Event) (m : Machine) (q : Packet) → Reaches w log m → IsOnItsWay q m.net → in_range w q.dst q.msg ≡ true
+MessagesAreInRange = (w : Config) (log : List Event) (m : Machine) (q : Packet) → Reaches w log m → IsOnItsWay q m.net → (q.dst < w.top.clusters) × (in_range w q.dst q.msg ≡ true)
 
--- of a line that is not of memory no cluster has a copy or a slot
+-- of a line that is not of memory there is no copy and no slot, nor of any line at what is no cluster of the machine
 abbrev pub LinesAreOfMemory : Type 0
-LinesAreOfMemory = (w : Config) (log : List Event) (m : Machine) (l c : ℕ) → lines w ≤ l → Reaches w log m → ((cell_at l m c).copy ≡ NoCopy) × ((cell_at l m c).slot ≡ NoSlot)
+LinesAreOfMemory = (w : Config) (log : List Event) (m : Machine) (l c : ℕ) → (lines w ≤ l) ⊎ (w.top.clusters ≤ c) → Reaches w log m → ((cell_at l m c).copy ≡ NoCopy) × ((cell_at l m c).slot ≡ NoSlot)
 
 -- who waits for the lock word of this number, at its home
 abbrev pub queue_of : Config → Machine → ℕ → List Waiter

@@ -28,13 +28,14 @@ pub fn buffers_hold_uncommitted_stores()
     ensures { BuffersHoldUncommittedStores }
 {}
 
-/// In every run each message on its way is of a line of memory or of a lock word. It goes to the home of
-/// its line or word where its row wants that, and the clusters and harts that it names exist.
+/// In every run each message on its way is of a line of memory or of a lock word, and goes to a cluster of
+/// the machine: to the home of its line or word where its row wants that. The clusters and harts that it
+/// names exist.
 pub fn messages_are_in_range()
     ensures { MessagesAreInRange }
 {}
 
-/// In every run no cluster has a copy or a slot of a line that is not of memory.
+/// In every run copies and slots are of lines of memory, and of clusters of the machine.
 pub fn lines_are_of_memory()
     ensures { LinesAreOfMemory }
 {}

@@ -1,5 +1,5 @@
-use Rattle.dash_model.proofs.InRange.{in_range_all}
+use Rattle.dash_model.proofs.Targets.{messages_in_range}
 use Rattle.dash_model.proofs.laws.messages_are_in_range.Goals as goal
 
 pub returns : goal.returns
-returns c = in_range_all
+returns c = messages_in_range
