@@ -1,9 +1,7 @@
 -- In every run the count of a lock word is how often it was granted or freed.
-use Rattle.std.proofs.Common.{◌≡◌, ℕ, ◌+◌, ◌*◌, ◌≤◌, ◌<◌, ◌==◌, Bool, true, false, cond, List, [], ◌∷◌, ◌++◌, map, sum_by, refl, sym, ap, ◌∙◌, subst, arith}
+use Rattle.std.proofs.Common.{◌≡◌, ℕ, ◌+◌, ◌*◌, ◌≤◌, ◌<◌, ◌==◌, Bool, true, false, cond, nat_lt, List, [], ◌∷◌, ◌++◌, map, sum_by, refl, sym, ap, ◌∙◌, subst, arith}
 use Rattle.std.proofs.lemmas.Bool.Decides.{nat_tests}
 use Rattle.std.proofs.lemmas.List.Sums.{sum_by_push}
-use Rattle.std.proofs.Math.Nat.{mul-suc, le-mul_of_pos_right}
-use Rattle.std.proofs.Math.Numerals.{add-one}
 use Rattle.dash_base.specs.declared.id.ClusterId.{ClusterId}
 use Rattle.dash_base.specs.declared.id.WordAddr.{WordAddr}
 use Rattle.dash_msg.specs.Classes.{class_of}
@@ -16,6 +14,7 @@ use Rattle.dash_event.specs.declared.access.Seen.TheVariants as seen
 use Rattle.dash_event.specs.declared.event.Event.{Event}
 use Rattle.dash_event.specs.declared.event.Kind.{Kind}
 use Rattle.dash_event.specs.declared.event.Kind.TheVariants as kind
+use Rattle.hart_core.specs.HartState.{is_running}
 use Rattle.dash_model.specs.Maps.{weigh, total, most}
 use Rattle.dash_model.specs.Config.{Config, all_harts, cluster_of, is_lock, lock_at, lock_home}
 use Rattle.dash_model.specs.Net.{Packet, packet, parcel, send}
@@ -26,7 +25,7 @@ use Rattle.dash_model.specs.Ranges.{has_hart, own_lock}
 use Rattle.dash_model.specs.Row.{row}
 use Rattle.dash_model.specs.Coherent.{ServesLock, lock_uses}
 use Rattle.dash_model.specs.Cases.{TakesWell}
-use Rattle.dash_model.specs.LockFacts.{of_hart_msg, of_hart, AllAreHarts, uses_of, LocksAreCounted, LockUsesAreNumbered}
+use Rattle.dash_model.specs.LockFacts.{of_hart_msg, of_hart, AllAreHarts, asking, uses_of, LocksAreCounted, LockUsesAreNumbered}
 use Rattle.dash_model.specs.Machine.{Machine, Step, taken, AtHead, less, CanHappen, after, opening, Reaches}
 use Rattle.dash_model.proofs.Tests.{is_same, not_same, is_below, both_left, both_right, at_most_one}
 use Rattle.dash_model.proofs.Weigh.{weigh-append, cut}
@@ -137,28 +136,32 @@ record Counts (w : Config) (log : List Event) (m : Machine) : Type 0 where
   pub words : (word : WordAddr) → is_lock w word.0 ≡ true → uses_of word log ≤ total (λ h. served_in h log) (all_harts w)
   pub counts : (word : WordAddr) → is_lock w word.0 ≡ true → ((m.parts (lock_home w (lock_at w word.0))).locks (lock_at w word.0)).count ≡ uses_of word log
 
--- each hart is served at most once more than it may retire
-served_most : (w : Config) (log : List Event) (m : Machine) → Reaches w log m → Counts w log m → (h : ℕ) → served_in h log ≤ w.top.budget + 1
-served_most w log m r k h =
+-- a hart that asked has an instruction left, so no hart is served more often than its budget
+served_by : (w : Config) (log : List Event) (m : Machine) → Reaches w log m → Counts w log m → (h : ℕ) (b : Bool) → ((m.parts (cluster_of w h)).harts h).asked ≡ b → served_in h log ≤ w.top.budget
+served_by w log m r k h true e =
     let harts = k.harts h in
-    let retired = retired_in_budget w log m r (cluster_of w h) h in
+    let core = ((m.parts (cluster_of w h)).harts h).core in
+    let left : core.retired < w.top.budget = is_below core.retired w.top.budget (both_right (is_running core.end) (nat_lt core.retired w.top.budget) (ask_first w log m r (cluster_of w h) h e).needs.goes) in
     let whole = one_each w log m r h in
     let few = at_most_one ((m.parts (cluster_of w h)).harts h).asked in
     let less = answers_le h m.net in
     omega arith
+served_by w log m r k h false e =
+    let harts = k.harts h in
+    let retired = retired_in_budget w log m r (cluster_of w h) h in
+    let whole = one_each w log m r h in
+    let none : asking w m h ≡ 0 = ap (λ b. cond b 1 0) e in
+    let less = answers_le h m.net in
+    omega arith
 
-used_most : (w : Config) (log : List Event) (m : Machine) → Reaches w log m → Counts w log m → (word : WordAddr) → is_lock w word.0 ≡ true → uses_of word log ≤ all_harts w * (w.top.budget + 1)
+used_most : (w : Config) (log : List Event) (m : Machine) → Reaches w log m → Counts w log m → (word : WordAddr) → is_lock w word.0 ≡ true → uses_of word log ≤ all_harts w * w.top.budget
 used_most w log m r k word i =
     let some = k.words word i in
-    let all = total_bound (λ h. served_in h log) (w.top.budget + 1) (all_harts w) (λ h l. served_most w log m r k h) in
+    let all = total_bound (λ h. served_in h log) w.top.budget (all_harts w) (λ h l. served_by w log m r k h ((m.parts (cluster_of w h)).harts h).asked refl) in
     omega arith
 
-below_most : (w : Config) (n : ℕ) → n ≤ all_harts w * (w.top.budget + 1) → n < most
-below_most w n l =
-    let work = w.top.work_in_range in
-    let some = le-mul_of_pos_right (all_harts w) w.top.budget_in_range.low in
-    let split : all_harts w * (w.top.budget + 1) ≡ all_harts w * w.top.budget + all_harts w = ap (λ y. all_harts w * y) (add-one w.top.budget) ∙ mul-suc (all_harts w) w.top.budget in
-    omega arith
+below_most : (w : Config) (n : ℕ) → n ≤ all_harts w * w.top.budget → n < most
+below_most w n l = let work = w.top.work_in_range in omega arith
 
 count_by : (w : Config) (m : Machine) (c : ℕ) (e : Kind) (d : HartEffect) (q : Part) (word : WordAddr) (n : ℕ) (b : Bool) → (lock_home w (lock_at w word.0) == c) ≡ b → q.locks ≡ (row w c e d (m.parts c)).part.locks → Guard w c e d (m.parts c) → is_lock w word.0 ≡ true → n < most
     → ((m.parts (lock_home w (lock_at w word.0))).locks (lock_at w word.0)).count ≡ n → ((cond b q (m.parts (lock_home w (lock_at w word.0)))).locks (lock_at w word.0)).count ≡ n + lock_uses word e

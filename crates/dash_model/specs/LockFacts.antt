@@ -46,6 +46,7 @@ of_hart_msg h (LockGrant t) = one t.0 h
 of_hart_msg h (UnlockAck t old) = one t.0 h
 of_hart_msg h m = 0
 
+-- the same of a message on its way
 abbrev pub of_hart : ℕ → Packet → ℕ
 of_hart h q = of_hart_msg h q.msg
 
@@ -61,7 +62,7 @@ places_of w m h = total (λ i. weigh (is_waiter h) (queue_of w m i)) w.top.locks
 abbrev pub asking : Config → Machine → ℕ → ℕ
 asking w m h = cond ((m.parts (cluster_of w h)).harts h).asked 1 0
 
--- what a lock instruction needs
+-- what a lock instruction needs, to ask for a lock word or to free one
 abbrev pub IsLock : Need → Type 0
 IsLock (Ask word value) = Unit {0}
 IsLock (Unlock word) = Unit {0}
@@ -87,10 +88,10 @@ RunsKeepLocks = (w : Config) (log : List Event) (m : Machine) → Reaches w log 
 abbrev pub uses_of : WordAddr → List Event → ℕ
 uses_of word log = sum_by (λ (e : Event). lock_uses word e.kind) log
 
--- the count of a lock word is how often the log grants or frees it, and harts have that many instructions
+-- the count of a lock word is how often the log grants or frees it, which is no oftener than harts have instructions
 pub record IsCounted (w : Config) (log : List Event) (m : Machine) (word : WordAddr) : Type 0 where
   pub count : ((m.parts (lock_home w (lock_at w word.0))).locks (lock_at w word.0)).count ≡ uses_of word log
-  pub bound : uses_of word log ≤ all_harts w * (w.top.budget + 1)
+  pub bound : uses_of word log ≤ all_harts w * w.top.budget
 
 -- in every run, of each lock word
 abbrev pub LocksAreCounted : Type 0
