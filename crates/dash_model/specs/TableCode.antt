@@ -9,8 +9,8 @@ use Rattle.dash_event.specs.declared.access.Seen.TheVariants as seen
 use Rattle.dash_event.specs.declared.event.Kind.{Kind}
 use Rattle.dash_event.specs.declared.event.Kind.TheVariants as kind
 use Rattle.write_buffer.specs.declared.entry.Entry.{Entry as Stored}
-use Rattle.dash_model.specs.Config.{hart_id, line_id}
-use Rattle.dash_model.specs.TableParts.{at}
+use Rattle.dash_model.specs.Config.{hart_id}
+use Rattle.dash_model.specs.TableParts.{at, line}
 
 -- addi t3,t2,1
 abbrev pub addi : ℕ
@@ -112,11 +112,11 @@ stores value = kind.Store (access op.Store plain None (Some value) seen.Nothing)
 -- an atomic addition in line 6, which is shown the version 7
 abbrev pub adds : Labels → ℕ → ℕ → ℕ → Kind
 adds labels read written version =
-    kind.Rmw (access op.Amo labels (Some read) (Some written) (seen.Line 7)) (line_id 6) version
+    kind.Rmw (access op.Amo labels (Some read) (Some written) (seen.Line 7)) line version
 
 -- an SC that writes
 abbrev pub swaps : Kind
-swaps = kind.Rmw (access op.Cond plain None (Some 7) (seen.Line 7)) (line_id 6) 8
+swaps = kind.Rmw (access op.Cond plain None (Some 7) (seen.Line 7)) line 8
 
 -- an SC that does not
 abbrev pub fails : Kind

@@ -14,7 +14,7 @@ use Rattle.dash_model.specs.Config.{hart_id, line_id}
 use Rattle.dash_model.specs.Net.{to}
 use Rattle.dash_model.specs.Cell.{Held, Asked, Reads, Owns, Counting}
 use Rattle.dash_model.specs.Machine.{Machine, Step, after}
-use Rattle.dash_model.specs.TableParts.{Scene, empty, outcome, Makes, May, Never, at, new, hart_with, calm, config_of}
+use Rattle.dash_model.specs.TableParts.{Scene, empty, outcome, Makes, May, Never, at, new, hart_with, calm, config_of, Becomes, line}
 use Rattle.dash_model.specs.TableCode.{addi, fence_writes, fence_reads, prefetch_i, prefetch_r, prefetch_w, prefetch_outside, ecall, ebreak, lw, lock, unlock, half}
 
 -- an addition
@@ -24,7 +24,7 @@ alu_event pc = kind.Alu (hart_id 2) pc
 -- Alu: of the hart's own cluster, at its pc, where its instruction is such a one, and it has neither ended nor spent its budget
 pub record RowsOfAlu : Type 0 where
   pub it_may_happen : May 1 (alu_event 4096) (calm addi)
-  pub it_retires : Makes 1 (alu_event 4096) (calm addi) (λ next. record (calm addi) { core = next }) []
+  pub it_retires : Becomes 1 (alu_event 4096) (calm addi) (λ next. record (calm addi) { core = next })
   pub never_of_a_hart_of_another_cluster : Never 2 (alu_event 4096) (calm addi)
   pub never_at_another_pc : Never 1 (alu_event 4100) (calm addi)
   pub never_of_a_load : Never 1 (alu_event 4096) (calm lw)
@@ -46,7 +46,7 @@ owing_beside s = record s { other = record empty { acks = Counting 0 (3 ∷ []) 
 -- Fence: one that waits needs that no store waits and nothing is owed to the hart
 pub record RowsOfFence : Type 0 where
   pub it_may_happen : May 1 fence_event (calm fence_writes)
-  pub it_retires : Makes 1 fence_event (calm fence_writes) (λ next. record (calm fence_writes) { core = next }) []
+  pub it_retires : Becomes 1 fence_event (calm fence_writes) (λ next. record (calm fence_writes) { core = next })
   pub also_where_another_hart_is_owed : May 1 fence_event (owing_beside (calm fence_writes))
   pub never_while_a_store_waits : Never 1 fence_event (record (calm fence_writes) { buffer = half ∷ [] })
   pub never_while_it_is_owed_an_acknowledgement : Never 1 fence_event (owing (calm fence_writes))
@@ -78,10 +78,10 @@ acks_full s = record s { other = record empty { acks = Counting 0 [] } }
 pub record RowsOfHint : Type 0 where
   pub one_for_reads_opens_a_slot : May 1 with_slot_4 (calm prefetch_r)
   pub so_it_does_open_it : Never 1 without_slot (calm prefetch_r)
-  pub the_slot_asks_to_read : Prefetches Shared 96 with_slot_4 (calm prefetch_r) (λ next. record (calm prefetch_r) { core = next; slot = Reads 4 2 Asked }) (Read (line_id 6))
+  pub the_slot_asks_to_read : Prefetches Shared 96 with_slot_4 (calm prefetch_r) (λ next. record (calm prefetch_r) { core = next; slot = Reads 4 2 Asked }) (Read line)
   pub one_for_writes_opens_a_slot : May 1 with_slot_4 (calm prefetch_w)
-  pub the_slot_asks_to_own : Prefetches Exclusive 96 with_slot_4 (calm prefetch_w) (λ next. record (calm prefetch_w) { core = next; slot = Owns 4 2 Asked; acks = Counting 0 [] }) (ReadEx (line_id 6))
-  pub without_a_slot_it_retires : Makes 1 without_slot (calm prefetch_i) (λ next. record (calm prefetch_i) { core = next }) []
+  pub the_slot_asks_to_own : Prefetches Exclusive 96 with_slot_4 (calm prefetch_w) (λ next. record (calm prefetch_w) { core = next; slot = Owns 4 2 Asked; acks = Counting 0 [] }) (ReadEx line)
+  pub without_a_slot_it_retires : Becomes 1 without_slot (calm prefetch_i) (λ next. record (calm prefetch_i) { core = next })
   pub never_by_another_slot : Never 1 (kind.Hint (hart_id 2) 4096 (Some 5)) (calm prefetch_r)
   pub never_by_a_front_slot : Never 1 (kind.Hint (hart_id 2) 4096 (Some 0)) (calm prefetch_r)
   pub one_for_fetches_opens_none : May 1 without_slot (calm prefetch_i)
@@ -112,7 +112,7 @@ putting = record (calm ecall) { core = hart_with 1 }
 -- Put: the low byte of a0 joins the console
 pub record RowsOfPut : Type 0 where
   pub it_may_happen : May 1 (put_event 65) putting
-  pub it_retires : Makes 1 (put_event 65) putting (λ next. record putting { core = next }) []
+  pub it_retires : Becomes 1 (put_event 65) putting (λ next. record putting { core = next })
   pub never_of_another_byte : Never 1 (put_event 66) putting
   pub never_of_a_call_that_ends : Never 1 (put_event 65) (calm ecall)
   pub the_byte_joins_the_console : (m : Machine) (g : Step) → g.event.kind ≡ put_event 65 → (after (config_of ecall) m g).console ≡ m.console ++ 65 ∷ []
@@ -121,7 +121,7 @@ pub record RowsOfPut : Type 0 where
 pub record RowsOfStop : Type 0 where
   pub an_exit_may_happen : May 1 (kind.Stop (hart_id 2) 4096 (Exited 65)) (calm ecall)
   pub a_trap_may_happen : May 1 (kind.Stop (hart_id 2) 4096 (Trapped Break 0)) (calm ebreak)
-  pub the_end_is_set : Makes 1 (kind.Stop (hart_id 2) 4096 (Exited 65)) (calm ecall) (λ next. record (calm ecall) { core = next }) []
+  pub the_end_is_set : Becomes 1 (kind.Stop (hart_id 2) 4096 (Exited 65)) (calm ecall) (λ next. record (calm ecall) { core = next })
   pub never_with_another_code : Never 1 (kind.Stop (hart_id 2) 4096 (Exited 66)) (calm ecall)
   pub never_of_an_addition : Never 1 (kind.Stop (hart_id 2) 4096 (Exited 65)) (calm addi)
 
@@ -137,12 +137,12 @@ giving_back = kind.LockSend (hart_id 2) (Unlock (hart_id 2) 4 (at 65536))
 pub record RowsOfLockSend : Type 0 where
   pub an_ask_may_be_sent : May 1 (asking 4) (calm lock)
   pub also_with_stores_that_wait_and_what_is_owed : May 1 (asking 4) (owing (record (calm lock) { buffer = half ∷ [] }))
-  pub it_goes_to_the_home_of_the_word : Makes 1 (asking 4) (calm lock) (λ next. record (calm lock) { asked = true }) (to 0 (LockAsk (hart_id 2) 4 (at 65536) 7) ∷ [])
+  pub it_goes_to_the_home_of_the_word : Makes 1 (asking 4) (calm lock) (record (calm lock) { asked = true }) (to 0 (LockAsk (hart_id 2) 4 (at 65536) 7) ∷ [])
   pub never_twice : Never 1 (asking 4) (record (calm lock) { asked = true })
   pub never_with_another_number : Never 1 (asking 5) (calm lock)
   pub never_of_an_addition : Never 1 (asking 4) (calm addi)
   pub an_unlock_may_be_sent : May 1 giving_back (calm unlock)
-  pub it_goes_there_too : Makes 1 giving_back (calm unlock) (λ next. record (calm unlock) { asked = true }) (to 0 (Unlock (hart_id 2) 4 (at 65536)) ∷ [])
+  pub it_goes_there_too : Makes 1 giving_back (calm unlock) (record (calm unlock) { asked = true }) (to 0 (Unlock (hart_id 2) 4 (at 65536)) ∷ [])
   pub an_unlock_never_twice : Never 1 giving_back (record (calm unlock) { asked = true })
   pub an_unlock_never_while_a_store_waits : Never 1 giving_back (record (calm unlock) { buffer = half ∷ [] })
   pub an_unlock_never_while_its_hart_is_owed : Never 1 giving_back (owing (calm unlock))

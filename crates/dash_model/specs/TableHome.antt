@@ -1,14 +1,14 @@
 -- The rows of the table for the messages that the home of a line takes: equations on concrete scenes.
 use Rattle.std.specs.Prelude.{ℕ, [], ◌∷◌}
-use Rattle.dash_base.specs.declared.line.Line.{Line}
 use Rattle.dash_event.specs.declared.event.Kind.{Kind}
 use Rattle.dash_event.specs.declared.event.Kind.TheVariants as kind
 use Rattle.dash_msg.specs.declared.msg.Msg.{Msg}
+use Rattle.dash_msg.specs.declared.parcel.Sent.{Sent}
 use Rattle.dash_msg.specs.declared.msg.Msg.TheVariants.{Read, ReadEx, FwdRead, FwdReadEx, Inval, WriteBack, SharingBack, Transfer, Data, DataEx, TransferAck}
 use Rattle.dash_model.specs.Config.{cluster_id, line_id}
 use Rattle.dash_model.specs.Net.{to}
 use Rattle.dash_model.specs.Cell.{Entry, Uncached, SharedBy, Dirty}
-use Rattle.dash_model.specs.TableParts.{Scene, Makes, Leaves, old, new, home_with, calm}
+use Rattle.dash_model.specs.TableParts.{Scene, Makes, Leaves, old, new, home_with, calm, line}
 use Rattle.dash_model.specs.TableCode.{addi}
 
 -- a message from cluster f
@@ -19,53 +19,77 @@ from f m = kind.Take (cluster_id f) m
 abbrev pub entered : Entry → Scene
 entered entry = record (calm addi) { home = home_with entry }
 
--- with this content in memory
-abbrev pub stored : Line → Entry → Scene
-stored line entry = record (calm addi) { home = record { mem = line; entry = entry } }
+-- with the newer content in its memory
+abbrev pub stored : Entry → Scene
+stored entry = record (calm addi) { home = record { mem = new; entry = entry } }
+
+-- cluster 1 asks to read
+abbrev pub asks : Kind
+asks = from 1 (Read line)
+
+-- to own
+abbrev pub asks_to_own : Kind
+asks_to_own = from 1 (ReadEx line)
+
+-- cluster f writes its copy back
+abbrev pub writes_back : ℕ → Kind
+writes_back f = from f (WriteBack line new)
+
+-- cluster f gave a copy to cluster r
+abbrev pub shares : ℕ → ℕ → Kind
+shares f r = from f (SharingBack line new (cluster_id r))
+
+-- cluster f gave the line to cluster r
+abbrev pub transfers : ℕ → ℕ → Kind
+transfers f r = from f (Transfer line (cluster_id r))
+
+-- an Inval for cluster 1 goes to cluster c
+abbrev pub inval_to : ℕ → Sent
+inval_to c = to c (Inval line (cluster_id 1))
 
 -- Read: the home gives a copy and marks the sender, or passes the request on to the owner
 pub record RowsOfRead : Type 0 where
-  pub of_an_uncached_line : Makes 2 (from 1 (Read (line_id 6))) (entered Uncached) (λ next. entered (SharedBy (1 ∷ []))) (to 1 (Data (line_id 6) old) ∷ [])
-  pub of_a_shared_line : Makes 2 (from 1 (Read (line_id 6))) (entered (SharedBy (0 ∷ 3 ∷ []))) (λ next. entered (SharedBy (0 ∷ 1 ∷ 3 ∷ []))) (to 1 (Data (line_id 6) old) ∷ [])
-  pub of_a_line_that_it_shares : Makes 2 (from 1 (Read (line_id 6))) (entered (SharedBy (0 ∷ 1 ∷ []))) (λ next. entered (SharedBy (0 ∷ 1 ∷ []))) (to 1 (Data (line_id 6) old) ∷ [])
-  pub of_a_dirty_line : Makes 2 (from 1 (Read (line_id 6))) (entered (Dirty 3)) (λ next. entered (Dirty 3)) (to 3 (FwdRead (line_id 6) (cluster_id 1)) ∷ [])
-  pub nothing_away_from_the_home : Leaves 1 (from 1 (Read (line_id 6))) (entered Uncached)
+  pub of_an_uncached_line : Makes 2 asks (entered Uncached) (entered (SharedBy (1 ∷ []))) (to 1 (Data line old) ∷ [])
+  pub of_a_shared_line : Makes 2 asks (entered (SharedBy (0 ∷ 3 ∷ []))) (entered (SharedBy (0 ∷ 1 ∷ 3 ∷ []))) (to 1 (Data line old) ∷ [])
+  pub of_a_line_that_it_shares : Makes 2 asks (entered (SharedBy (0 ∷ 1 ∷ []))) (entered (SharedBy (0 ∷ 1 ∷ []))) (to 1 (Data line old) ∷ [])
+  pub of_a_dirty_line : Makes 2 asks (entered (Dirty 3)) (entered (Dirty 3)) (to 3 (FwdRead line (cluster_id 1)) ∷ [])
+  pub nothing_away_from_the_home : Leaves 1 asks (entered Uncached)
   pub nothing_of_a_line_outside_memory : Leaves 0 (from 1 (Read (line_id 4096))) (entered Uncached)
 
 -- ReadEx: the home gives the line, with an Inval to each other sharer, or passes the request on to the owner
 pub record RowsOfReadEx : Type 0 where
-  pub of_an_uncached_line : Makes 2 (from 1 (ReadEx (line_id 6))) (entered Uncached) (λ next. entered (Dirty 1)) (to 1 (DataEx (line_id 6) old 0) ∷ [])
-  pub of_a_shared_line : Makes 2 (from 1 (ReadEx (line_id 6))) (entered (SharedBy (0 ∷ 3 ∷ []))) (λ next. entered (Dirty 1)) (to 0 (Inval (line_id 6) (cluster_id 1)) ∷ to 3 (Inval (line_id 6) (cluster_id 1)) ∷ to 1 (DataEx (line_id 6) old 2) ∷ [])
-  pub of_a_line_that_it_shares : Makes 2 (from 1 (ReadEx (line_id 6))) (entered (SharedBy (0 ∷ 1 ∷ []))) (λ next. entered (Dirty 1)) (to 0 (Inval (line_id 6) (cluster_id 1)) ∷ to 1 (DataEx (line_id 6) old 1) ∷ [])
-  pub of_a_line_that_it_alone_shares : Makes 2 (from 1 (ReadEx (line_id 6))) (entered (SharedBy (1 ∷ []))) (λ next. entered (Dirty 1)) (to 1 (DataEx (line_id 6) old 0) ∷ [])
-  pub of_a_dirty_line : Makes 2 (from 1 (ReadEx (line_id 6))) (entered (Dirty 3)) (λ next. entered (Dirty 3)) (to 3 (FwdReadEx (line_id 6) (cluster_id 1)) ∷ [])
-  pub nothing_away_from_the_home : Leaves 1 (from 1 (ReadEx (line_id 6))) (entered Uncached)
+  pub of_an_uncached_line : Makes 2 asks_to_own (entered Uncached) (entered (Dirty 1)) (to 1 (DataEx line old 0) ∷ [])
+  pub of_a_shared_line : Makes 2 asks_to_own (entered (SharedBy (0 ∷ 3 ∷ []))) (entered (Dirty 1)) (inval_to 0 ∷ inval_to 3 ∷ to 1 (DataEx line old 2) ∷ [])
+  pub of_a_line_that_it_shares : Makes 2 asks_to_own (entered (SharedBy (0 ∷ 1 ∷ []))) (entered (Dirty 1)) (inval_to 0 ∷ to 1 (DataEx line old 1) ∷ [])
+  pub of_a_line_that_it_alone_shares : Makes 2 asks_to_own (entered (SharedBy (1 ∷ []))) (entered (Dirty 1)) (to 1 (DataEx line old 0) ∷ [])
+  pub of_a_dirty_line : Makes 2 asks_to_own (entered (Dirty 3)) (entered (Dirty 3)) (to 3 (FwdReadEx line (cluster_id 1)) ∷ [])
+  pub nothing_away_from_the_home : Leaves 1 asks_to_own (entered Uncached)
   pub nothing_of_a_line_outside_memory : Leaves 0 (from 1 (ReadEx (line_id 4096))) (entered Uncached)
 
 -- WriteBack: the owner gives the line up
 pub record RowsOfWriteBack : Type 0 where
-  pub from_the_owner : Makes 2 (from 1 (WriteBack (line_id 6) new)) (entered (Dirty 1)) (λ next. stored new Uncached) []
-  pub nothing_from_another_cluster : Leaves 2 (from 0 (WriteBack (line_id 6) new)) (entered (Dirty 1))
-  pub nothing_of_an_uncached_line : Leaves 2 (from 1 (WriteBack (line_id 6) new)) (entered Uncached)
-  pub nothing_of_a_shared_line : Leaves 2 (from 1 (WriteBack (line_id 6) new)) (entered (SharedBy (1 ∷ [])))
-  pub nothing_away_from_the_home : Leaves 3 (from 1 (WriteBack (line_id 6) new)) (entered (Dirty 1))
+  pub from_the_owner : Makes 2 (writes_back 1) (entered (Dirty 1)) (stored Uncached) []
+  pub nothing_from_another_cluster : Leaves 2 (writes_back 0) (entered (Dirty 1))
+  pub nothing_of_an_uncached_line : Leaves 2 (writes_back 1) (entered Uncached)
+  pub nothing_of_a_shared_line : Leaves 2 (writes_back 1) (entered (SharedBy (1 ∷ [])))
+  pub nothing_away_from_the_home : Leaves 3 (writes_back 1) (entered (Dirty 1))
 
 -- SharingBack: the owner gave a copy to cluster 3
 pub record RowsOfSharingBack : Type 0 where
-  pub from_the_owner : Makes 2 (from 1 (SharingBack (line_id 6) new (cluster_id 3))) (entered (Dirty 1)) (λ next. stored new (SharedBy (1 ∷ 3 ∷ []))) []
-  pub sharers_stand_in_their_order : Makes 2 (from 3 (SharingBack (line_id 6) new (cluster_id 1))) (entered (Dirty 3)) (λ next. stored new (SharedBy (1 ∷ 3 ∷ []))) []
-  pub nothing_from_another_cluster : Leaves 2 (from 0 (SharingBack (line_id 6) new (cluster_id 3))) (entered (Dirty 1))
-  pub nothing_of_an_uncached_line : Leaves 2 (from 1 (SharingBack (line_id 6) new (cluster_id 3))) (entered Uncached)
-  pub nothing_for_a_cluster_that_is_not_there : Leaves 2 (from 1 (SharingBack (line_id 6) new (cluster_id 4))) (entered (Dirty 1))
-  pub nothing_away_from_the_home : Leaves 1 (from 1 (SharingBack (line_id 6) new (cluster_id 3))) (entered (Dirty 1))
+  pub from_the_owner : Makes 2 (shares 1 3) (entered (Dirty 1)) (stored (SharedBy (1 ∷ 3 ∷ []))) []
+  pub sharers_stand_in_their_order : Makes 2 (shares 3 1) (entered (Dirty 3)) (stored (SharedBy (1 ∷ 3 ∷ []))) []
+  pub nothing_from_another_cluster : Leaves 2 (shares 0 3) (entered (Dirty 1))
+  pub nothing_of_an_uncached_line : Leaves 2 (shares 1 3) (entered Uncached)
+  pub nothing_for_a_cluster_that_is_not_there : Leaves 2 (shares 1 4) (entered (Dirty 1))
+  pub nothing_away_from_the_home : Leaves 1 (shares 1 3) (entered (Dirty 1))
 
 -- Transfer: the owner gave the line to cluster 3
 pub record RowsOfTransfer : Type 0 where
-  pub from_the_owner : Makes 2 (from 1 (Transfer (line_id 6) (cluster_id 3))) (entered (Dirty 1)) (λ next. entered (Dirty 3)) (to 3 (TransferAck (line_id 6)) ∷ [])
-  pub nothing_from_another_cluster : Leaves 2 (from 3 (Transfer (line_id 6) (cluster_id 3))) (entered (Dirty 1))
-  pub nothing_of_a_shared_line : Leaves 2 (from 1 (Transfer (line_id 6) (cluster_id 3))) (entered (SharedBy (1 ∷ [])))
-  pub nothing_for_a_cluster_that_is_not_there : Leaves 2 (from 1 (Transfer (line_id 6) (cluster_id 4))) (entered (Dirty 1))
-  pub nothing_away_from_the_home : Leaves 1 (from 1 (Transfer (line_id 6) (cluster_id 3))) (entered (Dirty 1))
+  pub from_the_owner : Makes 2 (transfers 1 3) (entered (Dirty 1)) (entered (Dirty 3)) (to 3 (TransferAck line) ∷ [])
+  pub nothing_from_another_cluster : Leaves 2 (transfers 3 3) (entered (Dirty 1))
+  pub nothing_of_a_shared_line : Leaves 2 (transfers 1 3) (entered (SharedBy (1 ∷ [])))
+  pub nothing_for_a_cluster_that_is_not_there : Leaves 2 (transfers 1 4) (entered (Dirty 1))
+  pub nothing_away_from_the_home : Leaves 1 (transfers 1 3) (entered (Dirty 1))
 
 -- these rows
 pub record RowsOfHome : Type 0 where

@@ -9,7 +9,7 @@ use Rattle.dash_model.specs.Maps.{most}
 use Rattle.dash_model.specs.Config.{hart_id, cluster_id}
 use Rattle.dash_model.specs.Net.{to}
 use Rattle.dash_model.specs.Part.{Waiter}
-use Rattle.dash_model.specs.TableParts.{Scene, Makes, Leaves, May, Never, at, calm}
+use Rattle.dash_model.specs.TableParts.{Scene, Makes, Leaves, May, Never, at, calm, Becomes}
 use Rattle.dash_model.specs.TableCode.{addi, lock, unlock, release}
 use Rattle.dash_model.specs.TableHome.{from}
 
@@ -34,8 +34,8 @@ taking h number value shown =
 -- Grant: a lock word of this home is 0, and somebody waits for it
 pub record RowsOfGrant : Type 0 where
   pub it_may_happen : May 0 (taking 5 4 7 8) (locked 0 8 (first ∷ second ∷ []))
-  pub the_first_leaves_and_the_word_is_what_it_asked_for : Makes 0 (taking 5 4 7 8) (locked 0 8 (first ∷ second ∷ [])) (λ next. locked 7 9 (second ∷ [])) (to 2 (LockGrant (hart_id 5)) ∷ [])
-  pub a_count_stays_at_its_greatest : Makes 0 (taking 5 4 7 most) (locked 0 most (first ∷ [])) (λ next. locked 7 most []) (to 2 (LockGrant (hart_id 5)) ∷ [])
+  pub the_first_leaves_and_the_word_is_what_it_asked_for : Makes 0 (taking 5 4 7 8) (locked 0 8 (first ∷ second ∷ [])) (locked 7 9 (second ∷ [])) (to 2 (LockGrant (hart_id 5)) ∷ [])
+  pub a_count_stays_at_its_greatest : Makes 0 (taking 5 4 7 most) (locked 0 most (first ∷ [])) (locked 7 most []) (to 2 (LockGrant (hart_id 5)) ∷ [])
   pub never_of_a_word_that_is_not_0 : Never 0 (taking 5 4 7 8) (locked 3 8 (first ∷ second ∷ []))
   pub never_where_nobody_waits : Never 0 (taking 5 4 7 8) (locked 0 8 [])
   pub never_to_the_second : Never 0 (taking 1 2 9 8) (locked 0 8 (first ∷ second ∷ []))
@@ -51,8 +51,8 @@ freeing h word value shown =
 -- Free: of a hart of the machine, and of a lock word of this home
 pub record RowsOfFree : Type 0 where
   pub it_may_happen : May 0 (freeing 5 65536 3 8) (locked 3 8 (second ∷ []))
-  pub the_word_is_0_and_its_hart_is_told_what_it_was : Makes 0 (freeing 5 65536 3 8) (locked 3 8 (second ∷ [])) (λ next. locked 0 9 (second ∷ [])) (to 2 (UnlockAck (hart_id 5) 3) ∷ [])
-  pub a_count_stays_at_its_greatest : Makes 0 (freeing 5 65536 3 most) (locked 3 most []) (λ next. locked 0 most []) (to 2 (UnlockAck (hart_id 5) 3) ∷ [])
+  pub the_word_is_0_and_its_hart_is_told_what_it_was : Makes 0 (freeing 5 65536 3 8) (locked 3 8 (second ∷ [])) (locked 0 9 (second ∷ [])) (to 2 (UnlockAck (hart_id 5) 3) ∷ [])
+  pub a_count_stays_at_its_greatest : Makes 0 (freeing 5 65536 3 most) (locked 3 most []) (locked 0 most []) (to 2 (UnlockAck (hart_id 5) 3) ∷ [])
   pub also_of_a_word_that_is_0 : May 0 (freeing 5 65536 0 8) (locked 0 8 [])
   pub never_of_a_hart_that_is_not_there : Never 0 (freeing 8 65536 3 8) (locked 3 8 [])
   pub never_of_a_word_outside_the_lock_region : Never 0 (freeing 5 65540 3 8) (locked 3 8 [])
@@ -71,8 +71,8 @@ six = second ∷ second ∷ second ∷ second ∷ second ∷ second ∷ []
 
 -- LockAsk: the hart waits behind the others, of whom there are fewer than harts
 pub record RowsOfLockAsk : Type 0 where
-  pub it_waits_behind_the_others : Makes 0 (ask_of 5 65536) (locked 0 8 (second ∷ [])) (λ next. locked 0 8 (second ∷ first ∷ [])) []
-  pub the_last_for_whom_there_is_room : Makes 0 (ask_of 5 65536) (locked 3 8 (second ∷ six)) (λ next. locked 3 8 (second ∷ six ++ first ∷ [])) []
+  pub it_waits_behind_the_others : Makes 0 (ask_of 5 65536) (locked 0 8 (second ∷ [])) (locked 0 8 (second ∷ first ∷ [])) []
+  pub the_last_for_whom_there_is_room : Makes 0 (ask_of 5 65536) (locked 3 8 (second ∷ six)) (locked 3 8 (second ∷ six ++ first ∷ [])) []
   pub nothing_where_as_many_wait_as_there_are_harts : Leaves 0 (ask_of 5 65536) (locked 3 8 (second ∷ second ∷ six))
   pub nothing_of_a_hart_that_is_not_there : Leaves 0 (ask_of 8 65536) (locked 0 8 [])
   pub nothing_of_a_word_outside_the_lock_region : Leaves 0 (ask_of 5 65540) (locked 0 8 [])
@@ -99,11 +99,11 @@ sent word = record (calm word) { asked = true }
 -- LockGrant and UnlockAck: a hart whose lock instruction was sent does it
 pub record RowsOfLockAnswers : Type 0 where
   pub a_grant_may_be_taken : May 1 (from 0 (LockGrant (hart_id 2))) (sent lock)
-  pub then_the_hart_retires : Makes 1 (from 0 (LockGrant (hart_id 2))) (sent lock) (λ next. record (calm lock) { core = next }) []
+  pub then_the_hart_retires : Becomes 1 (from 0 (LockGrant (hart_id 2))) (sent lock) (λ next. record (calm lock) { core = next })
   pub nothing_where_none_was_sent : Leaves 1 (from 0 (LockGrant (hart_id 2))) (calm lock)
   pub nothing_of_a_hart_of_another_cluster : Leaves 0 (from 0 (LockGrant (hart_id 2))) (sent lock)
   pub an_answer_to_an_unlock_may_be_taken : May 1 (from 0 (UnlockAck (hart_id 2) 3)) (sent unlock)
-  pub then_its_hart_retires : Makes 1 (from 0 (UnlockAck (hart_id 2) 3)) (sent unlock) (λ next. record (calm unlock) { core = next }) []
+  pub then_its_hart_retires : Becomes 1 (from 0 (UnlockAck (hart_id 2) 3)) (sent unlock) (λ next. record (calm unlock) { core = next })
   pub nothing_of_an_unlock_where_none_was_sent : Leaves 1 (from 0 (UnlockAck (hart_id 2) 3)) (calm unlock)
   pub nothing_of_an_unlock_of_another_cluster : Leaves 0 (from 0 (UnlockAck (hart_id 2) 3)) (sent unlock)
 

@@ -2,6 +2,7 @@
 use Rattle.std.specs.Prelude.{◌≡◌, ℕ, ◌/◌, ◌%◌, ◌^◌, ◌==◌, Bool, false, cond, Option, None, List, [], ◌∷◌, refl, replicate, slice_set}
 use Rattle.std.proofs.Math.Dec.{lit≤}
 use Rattle.dash_base.specs.declared.end.End.TheVariants.{Running}
+use Rattle.dash_base.specs.declared.id.LineId.{LineId}
 use Rattle.dash_base.specs.declared.id.WordAddr.{WordAddr}
 use Rattle.dash_base.specs.declared.line.Line.{Line}
 use Rattle.dash_base.specs.declared.topology.Topology.{Topology}
@@ -9,7 +10,7 @@ use Rattle.dash_msg.specs.declared.parcel.Sent.{Sent}
 use Rattle.dash_event.specs.declared.event.Kind.{Kind}
 use Rattle.hart_core.specs.HartState.{HartState}
 use Rattle.write_buffer.specs.declared.entry.Entry.{Entry as Stored}
-use Rattle.dash_model.specs.Config.{Config}
+use Rattle.dash_model.specs.Config.{Config, line_id}
 use Rattle.dash_model.specs.Cell.{Copy, NoCopy, Slot, NoSlot, Acks, NoAcks, Entry, Uncached, Cell, Home}
 use Rattle.dash_model.specs.Part.{Part, Lock}
 use Rattle.dash_model.specs.HartRows.{HartEffect}
@@ -125,13 +126,17 @@ outcome c k d s = record {
   sent = (row (config_of s.word) c k d (part_of s)).sent;
 }
 
--- at cluster c the event makes this of the scene, where `next` is what the instruction makes of hart 2, and sends these messages
-abbrev pub Makes : ℕ → Kind → Scene → (HartState → Scene) → List Sent → Type 0
-Makes c k s made sent = (d : HartEffect) → outcome c k d s ≡ record { scene = made d.next; sent = sent }
+-- at cluster c the event makes this of the scene, and sends these messages
+abbrev pub Makes : ℕ → Kind → Scene → Scene → List Sent → Type 0
+Makes c k s made sent = (d : HartEffect) → outcome c k d s ≡ record { scene = made; sent = sent }
+
+-- at cluster c the event makes this of the scene, where `next` is what the instruction makes of hart 2, and sends nothing
+abbrev pub Becomes : ℕ → Kind → Scene → (HartState → Scene) → Type 0
+Becomes c k s made = (d : HartEffect) → outcome c k d s ≡ record { scene = made d.next; sent = [] }
 
 -- at cluster c the event changes nothing, and sends nothing
 abbrev pub Leaves : ℕ → Kind → Scene → Type 0
-Leaves c k s = Makes c k s (λ next. s) []
+Leaves c k s = Makes c k s s []
 
 -- at cluster c the event may happen
 abbrev pub May : ℕ → Kind → Scene → Type 0
@@ -145,7 +150,11 @@ Never c k s = (d : HartEffect) → Guard (config_of s.word) c k d (part_of s) �
 abbrev pub at : ℕ → WordAddr
 at n = record { 0 = n }
 
--- what the line's home has in memory, and a newer content
+-- line 6
+abbrev pub line : LineId
+line = line_id 6
+
+-- what the line's home has in memory
 abbrev pub old : Line
 old = record { words = 5 ∷ 6 ∷ 7 ∷ 8 ∷ []; version = 6 }
 
