@@ -1,5 +1,5 @@
--- What holds of each line of a scene: of line 6, of line 22, and of a line of which the cluster has nothing.
-use Rattle.std.proofs.Common.{◌≡◌, ◌≢◌, ◌⊎◌, inl, inr, ℕ, zero, suc, ◌≤◌, ◌<◌, ◌==◌, Bool, true, false, cond, refl, ap, arith}
+-- What holds of each line of a scene: of lines 6, 22 and 7, and of a line of which the cluster has nothing.
+use Rattle.std.proofs.Common.{◌≡◌, ◌≢◌, ◌⊎◌, inl, inr, ℕ, zero, suc, ◌%◌, ◌≤◌, ◌<◌, ◌==◌, Bool, true, false, cond, refl, ap, arith}
 use Rattle.std.proofs.lemmas.Bool.Decides.{nat_tests}
 use Rattle.dash_model.specs.Maps.{total}
 use Rattle.dash_model.specs.Cell.{Cell}
@@ -7,42 +7,51 @@ use Rattle.dash_model.specs.Words.{one_pending}
 use Rattle.dash_model.specs.Wants.{CameFor}
 use Rattle.dash_model.specs.TableParts.{empty}
 
--- a test that says the same of three cells, at the cell that is chosen
-pub chosen : (f : Cell → Bool) (b c v : Bool) (x y z : Cell) → f x ≡ v → f y ≡ v → f z ≡ v → f (cond b x (cond c y z)) ≡ v
-chosen f true c v x y z p q r = p
-chosen f false true v x y z p q r = q
-chosen f false false v x y z p q r = r
+-- a test that says the same of four cells, at the cell that is chosen
+pub chosen : (f : Cell → Bool) (b c d v : Bool) (x y z u : Cell) → f x ≡ v → f y ≡ v → f z ≡ v → f u ≡ v → f (cond b x (cond c y (cond d z u))) ≡ v
+chosen f true c d v x y z u p q r s = p
+chosen f false true d v x y z u p q r s = q
+chosen f false false true v x y z u p q r s = r
+chosen f false false false v x y z u p q r s = s
 
 not_6 : (k : ℕ) → k ≢ 6 → (k == 6) ≡ false
 not_6 k n = grind (arith, nat_tests)
 
-chosen_else : (f : Cell → Bool) (b c v : Bool) (x y z : Cell) → b ≡ false → f y ≡ v → f z ≡ v → f (cond b x (cond c y z)) ≡ v
-chosen_else f true c v x y z e q r = absurd (cc)
-chosen_else f false true v x y z e q r = q
-chosen_else f false false v x y z e q r = r
-
 -- the same of each line but line 6
-pub beside : (f : Cell → Bool) (k : ℕ) (v : Bool) (x y z : Cell) → k ≢ 6 → f y ≡ v → f z ≡ v → f (cond (k == 6) x (cond (k == 22) y z)) ≡ v
-beside f k v x y z n q r = chosen_else f (k == 6) (k == 22) v x y z (not_6 k n) q r
+pub beside : (f : Cell → Bool) (k : ℕ) (v : Bool) (x y z u : Cell) → k ≢ 6 → f y ≡ v → f z ≡ v → f u ≡ v → f (cond (k == 6) x (cond (k == 22) y (cond (k == 7) z u))) ≡ v
+beside f k v x y z u n q r s = rw not_6 (chosen f false (k == 22) (k == 7) v y y z u q q r s)
 
-came_else : (b c : Bool) (h : ℕ) (x y : Cell) → b ≡ false → (CameFor h y.slot → ⊥) → CameFor h (cond b x (cond c y empty)).slot → ⊥
-came_else true c h x y e n m = absurd (cc)
-came_else false true h x y e n m = n m
-came_else false false h x y e n m = m
+other_index : (k : ℕ) → k % 16 ≡ 6 → (k == 7) ≡ false
+other_index k m = grind (arith, nat_tests)
+
+-- the same of each line of the same index as line 6
+pub beside_of_index : (f : Cell → Bool) (k : ℕ) (v : Bool) (x y z u : Cell) → k ≢ 6 → k % 16 ≡ 6 → f y ≡ v → f u ≡ v → f (cond (k == 6) x (cond (k == 22) y (cond (k == 7) z u))) ≡ v
+beside_of_index f k v x y z u n m q s =
+    rw (not_6, other_index) (chosen f false (k == 22) false v y y u u q q s s)
+
+came_to : (c d : Bool) (h : ℕ) (y z : Cell) → (CameFor h y.slot → ⊥) → (CameFor h z.slot → ⊥) → CameFor h (cond c y (cond d z empty)).slot → ⊥
+came_to true d h y z p q m = p m
+came_to false true h y z p q m = q m
+came_to false false h y z p q m = m
 
 -- nothing came for the hart but perhaps line 6
-pub came_beside : (k h : ℕ) (x y : Cell) → k ≢ 6 → (CameFor h y.slot → ⊥) → CameFor h (cond (k == 6) x (cond (k == 22) y empty)).slot → ⊥
-came_beside k h x y n f m = came_else (k == 6) (k == 22) h x y (not_6 k n) f m
+pub came_beside : (k h : ℕ) (x y z : Cell) → k ≢ 6 → (CameFor h y.slot → ⊥) → (CameFor h z.slot → ⊥) → CameFor h (cond (k == 6) x (cond (k == 22) y (cond (k == 7) z empty))).slot → ⊥
+came_beside k h x y z n p q m = came_to (k == 22) (k == 7) h y z p q (rw not_6 at m)
+
+-- nor but a line of another index
+pub came_of_index : (k h : ℕ) (x y z : Cell) → k ≢ 6 → k % 16 ≡ 6 → (CameFor h y.slot → ⊥) → CameFor h (cond (k == 6) x (cond (k == 22) y (cond (k == 7) z empty))).slot → ⊥
+came_of_index k h x y z n i p m = came_to (k == 22) false h y empty p (λ e. e) (rw (not_6, other_index) at m)
 
 zeros : (f : ℕ → ℕ) → ((l : ℕ) → f l ≡ 0) → (n : ℕ) → total f n ≡ 0
 unfolding total
 zeros f h zero = refl
 zeros f h (suc n) = let a = h n in let b = zeros f h n in grind (arith)
 
-pub nothing_pending : (b c : Bool) (x y : Cell) → one_pending x.acks ≡ 0 → one_pending y.acks ≡ 0 → one_pending (cond b x (cond c y empty)).acks ≡ 0
-nothing_pending true c x y p q = p
-nothing_pending false true x y p q = q
-nothing_pending false false x y p q = refl
+pub nothing_pending : (b c d : Bool) (x y z : Cell) → one_pending x.acks ≡ 0 → one_pending y.acks ≡ 0 → one_pending z.acks ≡ 0 → one_pending (cond b x (cond c y (cond d z empty))).acks ≡ 0
+nothing_pending true c d x y z p q r = p
+nothing_pending false true d x y z p q r = q
+nothing_pending false false true x y z p q r = r
+nothing_pending false false false x y z p q r = refl
 
 -- where nothing is pending, the acknowledgements have room
 pub room_for_acks : (f : ℕ → ℕ) (n : ℕ) → ((l : ℕ) → f l ≡ 0) → total f n < 1

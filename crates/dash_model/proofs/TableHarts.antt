@@ -43,9 +43,9 @@ waits g n = elim g.passes [ inl e ↦ let m = need_of g.next.retires n in absurd
 fence : RowsOfFence
 unfolding row Guard member
 fence = record {
-  it_may_happen = (doing code.fence_writes (needed.Fence true) 0, record { waits = true; next = record { retires = record { mine = refl; need_is = refl; does = code.does_fence_writes 0 }; pc_is = refl }; passes = inr (record { buffer = refl; unowed = λ l. chosen (λ x. owes 2 x.acks) (l == 6) (l == 22) _ _ _ _ refl refl refl }) });
+  it_may_happen = (doing code.fence_writes (needed.Fence true) 0, record { waits = true; next = record { retires = record { mine = refl; need_is = refl; does = code.does_fence_writes 0 }; pc_is = refl }; passes = inr (record { buffer = refl; unowed = λ l. chosen (λ x. owes 2 x.acks) (l == 6) (l == 22) (l == 7) _ _ _ _ _ refl refl refl refl }) });
   it_retires = λ d. refl;
-  also_where_another_hart_is_owed = (doing code.fence_writes (needed.Fence true) 0, record { waits = true; next = record { retires = record { mine = refl; need_is = refl; does = code.does_fence_writes 0 }; pc_is = refl }; passes = inr (record { buffer = refl; unowed = λ l. chosen (λ x. owes 2 x.acks) (l == 6) (l == 22) _ _ _ _ refl refl refl }) });
+  also_where_another_hart_is_owed = (doing code.fence_writes (needed.Fence true) 0, record { waits = true; next = record { retires = record { mine = refl; need_is = refl; does = code.does_fence_writes 0 }; pc_is = refl }; passes = inr (record { buffer = refl; unowed = λ l. chosen (λ x. owes 2 x.acks) (l == 6) (l == 22) (l == 7) _ _ _ _ _ refl refl refl refl }) });
   never_while_a_store_waits = λ d g. let e = (waits g code.needs_fence_writes).buffer in cc;
   never_while_it_is_owed_an_acknowledgement = λ d g. let e = (waits g code.needs_fence_writes).unowed 22 in cc;
   one_that_passes_needs_neither = (doing code.fence_reads (needed.Fence false) 0, record { waits = false; next = record { retires = record { mine = refl; need_is = refl; does = code.does_fence_reads 0 }; pc_is = refl }; passes = inl refl });
@@ -70,10 +70,10 @@ only_slot n a b e = grind (arith, nat_tests)
 hint : RowsOfHint
 unfolding row Guard
 hint = record {
-  one_for_reads_opens_a_slot = (doing code.prefetch_r (needed.Hint Shared 96) 0, record { kinds = Shared; address = 96; next = record { retires = record { mine = refl; need_is = refl; does = code.does_prefetch_r 0 }; pc_is = refl }; opens = record { inside = refl; lone = refl; slot = record { from = omega arith; below = omega arith; empty = λ l. chosen (λ x. numbered 4 x.slot) (l == 6) (l == 22) _ _ _ _ refl refl refl; least = λ m a b n. between m a b }; kinds = refl } });
-  so_it_does_open_it = λ d g. let s = slot_of g code.needs_prefetch_r in s 4 (record { inside = refl; lone = refl; slot = record { from = omega arith; below = omega arith; empty = λ l. chosen (λ x. numbered 4 x.slot) (l == 6) (l == 22) _ _ _ _ refl refl refl; least = λ m a b n. between m a b }; kinds = refl });
+  one_for_reads_opens_a_slot = (doing code.prefetch_r (needed.Hint Shared 96) 0, record { kinds = Shared; address = 96; next = record { retires = record { mine = refl; need_is = refl; does = code.does_prefetch_r 0 }; pc_is = refl }; opens = record { inside = refl; lone = refl; slot = record { from = omega arith; below = omega arith; empty = λ l. chosen (λ x. numbered 4 x.slot) (l == 6) (l == 22) (l == 7) _ _ _ _ _ refl refl refl refl; least = λ m a b n. between m a b }; kinds = refl } });
+  so_it_does_open_it = λ d g. let s = slot_of g code.needs_prefetch_r in s 4 (record { inside = refl; lone = refl; slot = record { from = omega arith; below = omega arith; empty = λ l. chosen (λ x. numbered 4 x.slot) (l == 6) (l == 22) (l == 7) _ _ _ _ _ refl refl refl refl; least = λ m a b n. between m a b }; kinds = refl });
   the_slot_asks_to_read = λ next. refl;
-  one_for_writes_opens_a_slot = (doing code.prefetch_w (needed.Hint Exclusive 96) 0, record { kinds = Exclusive; address = 96; next = record { retires = record { mine = refl; need_is = refl; does = code.does_prefetch_w 0 }; pc_is = refl }; opens = record { inside = refl; lone = refl; slot = record { from = omega arith; below = omega arith; empty = λ l. chosen (λ x. numbered 4 x.slot) (l == 6) (l == 22) _ _ _ _ refl refl refl; least = λ m a b n. between m a b }; kinds = (refl, room_for_acks _ _ (λ l. nothing_pending (l == 6) (l == 22) _ _ refl refl)) } });
+  one_for_writes_opens_a_slot = (doing code.prefetch_w (needed.Hint Exclusive 96) 0, record { kinds = Exclusive; address = 96; next = record { retires = record { mine = refl; need_is = refl; does = code.does_prefetch_w 0 }; pc_is = refl }; opens = record { inside = refl; lone = refl; slot = record { from = omega arith; below = omega arith; empty = λ l. chosen (λ x. numbered 4 x.slot) (l == 6) (l == 22) (l == 7) _ _ _ _ _ refl refl refl refl; least = λ m a b n. between m a b }; kinds = (refl, room_for_acks _ _ (λ l. nothing_pending (l == 6) (l == 22) (l == 7) _ _ _ refl refl refl)) } });
   the_slot_asks_to_own = λ next. refl;
   without_a_slot_it_retires = λ d. refl;
   never_by_another_slot = λ d g. let s = slot_of g code.needs_prefetch_r in let e = s.slot.below in omega arith;
@@ -88,12 +88,12 @@ hint = record {
   never_by_a_slot_that_is_taken = λ d g. let s = slot_of g code.needs_prefetch_r in only_slot 4 s.slot.from s.slot.below (s.slot.empty 22);
   one_for_reads_of_a_line_that_is_there_opens_none = (doing code.prefetch_r (needed.Hint Shared 96) 0, record { kinds = Shared; address = 96; next = record { retires = record { mine = refl; need_is = refl; does = code.does_prefetch_r 0 }; pc_is = refl }; opens = λ n o. let e = o.kinds in cc });
   never_for_reads_of_a_line_that_is_there = λ d g. let s = slot_of g code.needs_prefetch_r in let e = s.kinds in cc;
-  one_for_writes_opens_a_slot_beside_a_copy = (doing code.prefetch_w (needed.Hint Exclusive 96) 0, record { kinds = Exclusive; address = 96; next = record { retires = record { mine = refl; need_is = refl; does = code.does_prefetch_w 0 }; pc_is = refl }; opens = record { inside = refl; lone = refl; slot = record { from = omega arith; below = omega arith; empty = λ l. chosen (λ x. numbered 4 x.slot) (l == 6) (l == 22) _ _ _ _ refl refl refl; least = λ m a b n. between m a b }; kinds = (refl, room_for_acks _ _ (λ l. nothing_pending (l == 6) (l == 22) _ _ refl refl)) } });
+  one_for_writes_opens_a_slot_beside_a_copy = (doing code.prefetch_w (needed.Hint Exclusive 96) 0, record { kinds = Exclusive; address = 96; next = record { retires = record { mine = refl; need_is = refl; does = code.does_prefetch_w 0 }; pc_is = refl }; opens = record { inside = refl; lone = refl; slot = record { from = omega arith; below = omega arith; empty = λ l. chosen (λ x. numbered 4 x.slot) (l == 6) (l == 22) (l == 7) _ _ _ _ _ refl refl refl refl; least = λ m a b n. between m a b }; kinds = (refl, room_for_acks _ _ (λ l. nothing_pending (l == 6) (l == 22) (l == 7) _ _ _ refl refl refl)) } });
   one_for_writes_of_a_line_with_an_owner_opens_none = (doing code.prefetch_w (needed.Hint Exclusive 96) 0, record { kinds = Exclusive; address = 96; next = record { retires = record { mine = refl; need_is = refl; does = code.does_prefetch_w 0 }; pc_is = refl }; opens = λ n o. let e = o.kinds.0 in cc });
   never_for_writes_of_a_line_with_an_owner = λ d g. let s = slot_of g code.needs_prefetch_w in let e = s.kinds.0 in cc;
   one_for_writes_without_room_for_acknowledgements_opens_none = (doing code.prefetch_w (needed.Hint Exclusive 96) 0, record { kinds = Exclusive; address = 96; next = record { retires = record { mine = refl; need_is = refl; does = code.does_prefetch_w 0 }; pc_is = refl }; opens = λ n o. no_room_for_acks _ _ 22 (omega arith) (omega arith) o.kinds.1 });
   never_for_writes_without_room_for_acknowledgements = λ d g. let s = slot_of g code.needs_prefetch_w in no_room_for_acks _ _ 22 (omega arith) (omega arith) s.kinds.1;
-  one_for_reads_needs_no_such_room = (doing code.prefetch_r (needed.Hint Shared 96) 0, record { kinds = Shared; address = 96; next = record { retires = record { mine = refl; need_is = refl; does = code.does_prefetch_r 0 }; pc_is = refl }; opens = record { inside = refl; lone = refl; slot = record { from = omega arith; below = omega arith; empty = λ l. chosen (λ x. numbered 4 x.slot) (l == 6) (l == 22) _ _ _ _ refl refl refl; least = λ m a b n. between m a b }; kinds = refl } });
+  one_for_reads_needs_no_such_room = (doing code.prefetch_r (needed.Hint Shared 96) 0, record { kinds = Shared; address = 96; next = record { retires = record { mine = refl; need_is = refl; does = code.does_prefetch_r 0 }; pc_is = refl }; opens = record { inside = refl; lone = refl; slot = record { from = omega arith; below = omega arith; empty = λ l. chosen (λ x. numbered 4 x.slot) (l == 6) (l == 22) (l == 7) _ _ _ _ _ refl refl refl refl; least = λ m a b n. between m a b }; kinds = refl } });
 }
 
 one_byte : (a b : ℕ) → needed.Put a ≡ needed.Put b → a ≡ b
@@ -135,12 +135,13 @@ lock_send = record {
   never_twice = λ d g. let e = g.unsent in cc;
   never_with_another_number = λ d g. let e = sends g code.needs_lock in cc;
   never_of_an_addition = λ d g. sends g code.needs_addi;
-  an_unlock_may_be_sent = (code.nothing, record { mine = refl; need = needed.Unlock (at 65536); needs = code.needs_unlock; unsent = refl; sends = (refl, record { buffer = refl; unowed = λ l. chosen (λ x. owes 2 x.acks) (l == 6) (l == 22) _ _ _ _ refl refl refl }) });
+  never_at_another_cluster = λ d g. let e = g.mine in omega arith;
+  an_unlock_may_be_sent = (code.nothing, record { mine = refl; need = needed.Unlock (at 65536); needs = code.needs_unlock; unsent = refl; sends = (refl, record { buffer = refl; unowed = λ l. chosen (λ x. owes 2 x.acks) (l == 6) (l == 22) (l == 7) _ _ _ _ _ refl refl refl refl }) });
   it_goes_there_too = λ d. refl;
   an_unlock_never_twice = λ d g. let e = g.unsent in cc;
   an_unlock_never_while_a_store_waits = λ d g. let e = (sends g code.needs_unlock).1.buffer in cc;
   an_unlock_never_while_its_hart_is_owed = λ d g. let e = (sends g code.needs_unlock).1.unowed 22 in cc;
-  an_unlock_where_another_hart_is_owed = (code.nothing, record { mine = refl; need = needed.Unlock (at 65536); needs = code.needs_unlock; unsent = refl; sends = (refl, record { buffer = refl; unowed = λ l. chosen (λ x. owes 2 x.acks) (l == 6) (l == 22) _ _ _ _ refl refl refl }) });
+  an_unlock_where_another_hart_is_owed = (code.nothing, record { mine = refl; need = needed.Unlock (at 65536); needs = code.needs_unlock; unsent = refl; sends = (refl, record { buffer = refl; unowed = λ l. chosen (λ x. owes 2 x.acks) (l == 6) (l == 22) (l == 7) _ _ _ _ _ refl refl refl refl }) });
 }
 
 pub rows_of_harts : RowsOfHarts

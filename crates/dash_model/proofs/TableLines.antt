@@ -18,7 +18,7 @@ use Rattle.dash_model.specs.TableParts.{at}
 use Rattle.dash_model.specs.TableCode.{plain}
 use Rattle.dash_model.specs.TableLines.{RowsOfBusRead, RowsOfBusOwn, RowsOfEvict, RowsOfAsk, RowsOfAgain, RowsOfInstall, RowsOfLines}
 use Rattle.dash_model.proofs.TableCode as code
-use Rattle.dash_model.proofs.TableCells.{chosen, beside, came_beside, nothing_pending, room_for_acks, no_room_for_acks}
+use Rattle.dash_model.proofs.TableCells.{chosen, beside, beside_of_index, came_beside, came_of_index, nothing_pending, room_for_acks, no_room_for_acks}
 
 -- what a hart that needs a copy loads, and what one that needs to own writes, is what its instruction says
 loads_of : {w : Config} {h l : ℕ} {p : Part} {need : Need} → NeedsCopy w h l p → Needs w.image w.top (p.harts h).core need → LoadsFrom w l (p.harts h) need
@@ -33,10 +33,11 @@ apart a b e n = let m : a ≡ b = cc in n m
 bus_read : RowsOfBusRead
 unfolding row Guard newest_of member with_member
 bus_read = record {
-  it_may_happen = (code.nothing, record { mine = refl; need = record { need = needed.Load (at 100) 15 plain false; needs = code.needs_lw; loads = (refl, refl); lacks = refl }; copy = refl; room = λ k n m. beside (λ x. held_by 2 x.copy) k _ _ _ _ n refl refl });
+  it_may_happen = (code.nothing, record { mine = refl; need = record { need = needed.Load (at 100) 15 plain false; needs = code.needs_lw; loads = (refl, refl); lacks = refl }; copy = refl; room = λ k n m. beside (λ x. held_by 2 x.copy) k _ _ _ _ _ n refl refl refl });
   it_is_a_holder_too = λ d. refl;
   also_beside_an_owner_who_stays_the_owner = λ d. refl;
-  an_lr_may_too = (code.nothing, record { mine = refl; need = record { need = needed.Load (at 100) 15 plain true; needs = code.needs_lr; loads = (refl, refl); lacks = refl }; copy = refl; room = λ k n m. beside (λ x. held_by 2 x.copy) k _ _ _ _ n refl refl });
+  also_with_a_line_of_another_index = (code.nothing, record { mine = refl; need = record { need = needed.Load (at 100) 15 plain false; needs = code.needs_lw; loads = (refl, refl); lacks = refl }; copy = refl; room = λ k n m. beside_of_index (λ x. held_by 2 x.copy) k _ _ _ _ _ n m refl refl });
+  an_lr_may_too = (code.nothing, record { mine = refl; need = record { need = needed.Load (at 100) 15 plain true; needs = code.needs_lr; loads = (refl, refl); lacks = refl }; copy = refl; room = λ k n m. beside (λ x. held_by 2 x.copy) k _ _ _ _ _ n refl refl refl });
   never_where_it_is_a_holder = λ d g. let e = g.need.lacks in cc;
   never_where_the_cluster_has_no_copy = λ d g. let e = g.copy in cc;
   never_without_room = λ d g. let e = g.room 22 (λ e. omega arith) refl in cc;
@@ -51,10 +52,10 @@ bus_read = record {
 bus_own : RowsOfBusOwn
 unfolding row Guard member
 bus_own = record {
-  for_an_atomic_operation = (code.nothing, record { mine = refl; need = inl (record { need = needed.Rmw (at 100) amo.Add 7 plain; needs = code.needs_amoadd; writes = refl; lacks = refl }); owner = refl; room = λ k n m. beside (λ x. held_by 2 x.copy) k _ _ _ _ n refl refl });
-  for_an_sc_on_its_reservation = (code.nothing, record { mine = refl; need = inl (record { need = needed.Rmw (at 100) amo.Sc 7 plain; needs = code.needs_sc; writes = (refl, refl); lacks = refl }); owner = refl; room = λ k n m. beside (λ x. held_by 2 x.copy) k _ _ _ _ n refl refl });
-  for_the_oldest_store = (code.nothing, record { mine = refl; need = inr (record { oldest = refl; lacks = refl }); owner = refl; room = λ k n m. beside (λ x. held_by 2 x.copy) k _ _ _ _ n refl refl });
-  also_where_it_owns_beside_another_holder = (code.nothing, record { mine = refl; need = inl (record { need = needed.Rmw (at 100) amo.Add 7 plain; needs = code.needs_amoadd; writes = refl; lacks = refl }); owner = refl; room = λ k n m. beside (λ x. held_by 2 x.copy) k _ _ _ _ n refl refl });
+  for_an_atomic_operation = (code.nothing, record { mine = refl; need = inl (record { need = needed.Rmw (at 100) amo.Add 7 plain; needs = code.needs_amoadd; writes = refl; lacks = refl }); owner = refl; room = λ k n m. beside (λ x. held_by 2 x.copy) k _ _ _ _ _ n refl refl refl });
+  for_an_sc_on_its_reservation = (code.nothing, record { mine = refl; need = inl (record { need = needed.Rmw (at 100) amo.Sc 7 plain; needs = code.needs_sc; writes = (refl, refl); lacks = refl }); owner = refl; room = λ k n m. beside (λ x. held_by 2 x.copy) k _ _ _ _ _ n refl refl refl });
+  for_the_oldest_store = (code.nothing, record { mine = refl; need = inr (record { oldest = refl; lacks = refl }); owner = refl; room = λ k n m. beside (λ x. held_by 2 x.copy) k _ _ _ _ _ n refl refl refl });
+  also_where_it_owns_beside_another_holder = (code.nothing, record { mine = refl; need = inl (record { need = needed.Rmw (at 100) amo.Add 7 plain; needs = code.needs_amoadd; writes = refl; lacks = refl }); owner = refl; room = λ k n m. beside (λ x. held_by 2 x.copy) k _ _ _ _ _ n refl refl refl });
   it_is_the_only_holder_and_every_other_is_cleared = λ d. refl;
   a_reservation_in_another_line_stays = λ d. refl;
   never_in_state_M = λ d g. elim g.need [ inl f ↦ let e = f.lacks in cc | inr s ↦ let e = s.lacks in cc ];
@@ -84,11 +85,12 @@ evict = record {
   a_holder_beside_an_owner_while_the_line_is_pending = (code.nothing, record { mine = refl; holder = refl; other = 22; differs = λ e. omega arith; index = refl; wants = ToInstall refl; free = inr refl });
   an_owner_never_while_the_line_is_pending = λ d g. elim g.free [ inl e ↦ cc | inr e ↦ cc ];
   never_where_it_is_no_holder = λ d g. let e = g.holder in cc;
-  never_where_nothing_is_wanted = λ d g. unwanted g.wants (came_beside _ 2 _ _ g.differs (λ m. m)) (λ r h. loads_of r code.needs_addi) (λ f h. writes_of f code.needs_addi) (λ s h. s.oldest);
-  never_for_what_another_hart_wants = λ d g. unwanted g.wants (came_beside _ 2 _ _ g.differs (λ m. omega arith)) (λ r h. loads_of r code.needs_addi) (λ f h. writes_of f code.needs_addi) (λ s h. s.oldest);
-  never_for_a_line_that_has_not_come = λ d g. unwanted g.wants (came_beside _ 2 _ _ g.differs (λ m. m)) (λ r h. loads_of r code.needs_addi) (λ f h. writes_of f code.needs_addi) (λ s h. s.oldest);
-  never_for_a_line_to_read_that_its_cluster_has_not_got = λ d g. unwanted g.wants (came_beside _ 2 _ _ g.differs (λ m. m)) (λ r h. both (has_copy _) (beside (λ x. has_copy x.copy) g.other false _ _ _ g.differs refl refl) h) (λ f h. writes_of f code.needs_lw_other) (λ s h. s.oldest);
-  never_for_the_line_itself = λ d g. unwanted g.wants (came_beside _ 2 _ _ g.differs (λ m. m)) (λ r h. loads_of r code.needs_addi) (λ f h. writes_of f code.needs_addi) (λ s h. s.oldest);
+  never_where_nothing_is_wanted = λ d g. unwanted g.wants (came_beside _ 2 _ _ _ g.differs (λ m. m) (λ m. m)) (λ r h. loads_of r code.needs_addi) (λ f h. writes_of f code.needs_addi) (λ s h. s.oldest);
+  never_for_what_another_hart_wants = λ d g. unwanted g.wants (came_beside _ 2 _ _ _ g.differs (λ m. omega arith) (λ m. m)) (λ r h. loads_of r code.needs_addi) (λ f h. writes_of f code.needs_addi) (λ s h. s.oldest);
+  never_for_a_line_that_has_not_come = λ d g. unwanted g.wants (came_beside _ 2 _ _ _ g.differs (λ m. m) (λ m. m)) (λ r h. loads_of r code.needs_addi) (λ f h. writes_of f code.needs_addi) (λ s h. s.oldest);
+  never_for_a_line_to_read_that_its_cluster_has_not_got = λ d g. unwanted g.wants (came_beside _ 2 _ _ _ g.differs (λ m. m) (λ m. m)) (λ r h. both (has_copy _) (beside (λ x. has_copy x.copy) g.other false _ _ _ _ g.differs refl refl refl) h) (λ f h. writes_of f code.needs_lw_other) (λ s h. s.oldest);
+  never_for_a_line_of_another_index = λ d g. unwanted g.wants (came_of_index _ 2 _ _ _ g.differs g.index (λ m. m)) (λ r h. loads_of r code.needs_addi) (λ f h. writes_of f code.needs_addi) (λ s h. s.oldest);
+  never_for_the_line_itself = λ d g. unwanted g.wants (came_beside _ 2 _ _ _ g.differs (λ m. m) (λ m. m)) (λ r h. loads_of r code.needs_addi) (λ f h. writes_of f code.needs_addi) (λ s h. s.oldest);
   never_at_another_cluster = λ d g. let e = g.mine in omega arith;
   the_owner_leaves_no_copy_and_writes_back = λ d. refl;
   a_holder_leaves_the_others = λ d. refl;
@@ -119,22 +121,22 @@ own_cause (StoreOwns s n e r) = inr (record { slot_is = s; need_is = n; lacks = 
 ask : RowsOfAsk
 unfolding row Guard newest_of member
 ask = record {
-  the_front_slot_to_read = (code.nothing, record { mine = refl; may = record { empty = λ l. chosen (λ x. numbered 0 x.slot) (l == 6) (l == 22) _ _ _ _ refl refl refl; lone = refl; cause = FrontReads refl (record { need = needed.Load (at 100) 15 plain false; needs = code.needs_lw; loads = (refl, refl); lacks = refl }) refl } });
+  the_front_slot_to_read = (code.nothing, record { mine = refl; may = record { empty = λ l. chosen (λ x. numbered 0 x.slot) (l == 6) (l == 22) (l == 7) _ _ _ _ _ refl refl refl refl; lone = refl; cause = FrontReads refl (record { need = needed.Load (at 100) 15 plain false; needs = code.needs_lw; loads = (refl, refl); lacks = refl }) refl } });
   it_asks_the_home = λ d. refl;
-  it_needs_no_room_for_acknowledgements = (code.nothing, record { mine = refl; may = record { empty = λ l. chosen (λ x. numbered 0 x.slot) (l == 6) (l == 22) _ _ _ _ refl refl refl; lone = refl; cause = FrontReads refl (record { need = needed.Load (at 100) 15 plain false; needs = code.needs_lw; loads = (refl, refl); lacks = refl }) refl } });
+  it_needs_no_room_for_acknowledgements = (code.nothing, record { mine = refl; may = record { empty = λ l. chosen (λ x. numbered 0 x.slot) (l == 6) (l == 22) (l == 7) _ _ _ _ _ refl refl refl refl; lone = refl; cause = FrontReads refl (record { need = needed.Load (at 100) 15 plain false; needs = code.needs_lw; loads = (refl, refl); lacks = refl }) refl } });
   never_to_read_what_the_cluster_has = λ d g. let e = (read_cause g.may.cause).lacks in cc;
   never_to_read_for_nothing = λ d g. loads_of (read_cause g.may.cause).need code.needs_addi;
   never_to_read_by_the_store_slot = λ d g. let e = (read_cause g.may.cause).slot in omega arith;
   never_by_a_slot_that_is_not_empty = λ d g. let e = g.may.empty 22 in cc;
   never_for_a_line_in_a_slot = λ d g. let e = g.may.lone in cc;
   never_at_another_cluster = λ d g. let e = g.mine in omega arith;
-  the_front_slot_to_own = (code.nothing, record { mine = refl; may = record { empty = λ l. chosen (λ x. numbered 0 x.slot) (l == 6) (l == 22) _ _ _ _ refl refl refl; lone = refl; cause = FrontOwns refl (record { need = needed.Rmw (at 100) amo.Add 7 plain; needs = code.needs_amoadd; writes = refl; lacks = refl }) refl (room_for_acks _ _ (λ l. nothing_pending (l == 6) (l == 22) _ _ refl refl)) } });
+  the_front_slot_to_own = (code.nothing, record { mine = refl; may = record { empty = λ l. chosen (λ x. numbered 0 x.slot) (l == 6) (l == 22) (l == 7) _ _ _ _ _ refl refl refl refl; lone = refl; cause = FrontOwns refl (record { need = needed.Rmw (at 100) amo.Add 7 plain; needs = code.needs_amoadd; writes = refl; lacks = refl }) refl (room_for_acks _ _ (λ l. nothing_pending (l == 6) (l == 22) (l == 7) _ _ _ refl refl refl)) } });
   an_entry_of_acknowledgements_begins = λ d. refl;
   never_to_own_what_the_cluster_owns = λ d g. elim (own_cause g.may.cause) [ inl f ↦ let e = f.lacks in cc | inr s ↦ let e = s.lacks in cc ];
   never_to_own_without_room_for_acknowledgements = λ d g. elim (own_cause g.may.cause) [ inl f ↦ no_room_for_acks _ _ 22 (omega arith) (omega arith) f.room | inr s ↦ no_room_for_acks _ _ 22 (omega arith) (omega arith) s.room ];
   never_to_own_for_a_load = λ d g. elim (own_cause g.may.cause) [ inl f ↦ writes_of f.need_is code.needs_lw | inr s ↦ s.need_is.oldest ];
   never_to_own_for_an_sc_without_its_reservation = λ d g. elim (own_cause g.may.cause) [ inl f ↦ let e = (writes_of f.need_is code.needs_sc).1 in cc | inr s ↦ s.need_is.oldest ];
-  the_store_slot_to_own = (code.nothing, record { mine = refl; may = record { empty = λ l. chosen (λ x. numbered 2 x.slot) (l == 6) (l == 22) _ _ _ _ refl refl refl; lone = refl; cause = StoreOwns refl (record { oldest = refl; lacks = refl }) refl (room_for_acks _ _ (λ l. nothing_pending (l == 6) (l == 22) _ _ refl refl)) } });
+  the_store_slot_to_own = (code.nothing, record { mine = refl; may = record { empty = λ l. chosen (λ x. numbered 2 x.slot) (l == 6) (l == 22) (l == 7) _ _ _ _ _ refl refl refl refl; lone = refl; cause = StoreOwns refl (record { oldest = refl; lacks = refl }) refl (room_for_acks _ _ (λ l. nothing_pending (l == 6) (l == 22) (l == 7) _ _ _ refl refl refl)) } });
   never_for_a_store_by_the_front_slot = λ d g. elim (own_cause g.may.cause) [ inl f ↦ writes_of f.need_is code.needs_addi | inr s ↦ let e = s.slot_is in omega arith ];
   never_for_a_store_that_is_not_the_oldest = λ d g. elim (own_cause g.may.cause) [ inl f ↦ writes_of f.need_is code.needs_addi | inr s ↦ let e = s.need_is.oldest in omega arith ];
   never_for_a_store_where_the_cluster_owns = λ d g. elim (own_cause g.may.cause) [ inl f ↦ let e = f.lacks in cc | inr s ↦ let e = s.lacks in cc ];
@@ -157,9 +159,9 @@ again = record {
 install : RowsOfInstall
 unfolding row Guard member
 install = record {
-  a_line_to_read = (code.nothing, record { mine = refl; came = (refl, refl); room = λ k n m. beside (λ x. held_by 2 x.copy) k _ _ _ _ n refl refl });
+  a_line_to_read = (code.nothing, record { mine = refl; came = (refl, refl); room = λ k n m. beside (λ x. held_by 2 x.copy) k _ _ _ _ _ n refl refl refl });
   the_hart_is_the_only_holder = λ d. refl;
-  a_line_to_own = (code.nothing, record { mine = refl; came = (refl, refl); room = λ k n m. beside (λ x. held_by 2 x.copy) k _ _ _ _ n refl refl });
+  a_line_to_own = (code.nothing, record { mine = refl; came = (refl, refl); room = λ k n m. beside (λ x. held_by 2 x.copy) k _ _ _ _ _ n refl refl refl });
   the_hart_is_the_owner = λ d. refl;
   every_other_holder_is_cleared = λ d. refl;
   a_stranger_keeps_no_reservation_in_the_line = λ d. refl;

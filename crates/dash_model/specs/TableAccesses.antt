@@ -1,6 +1,7 @@
 -- The rows of the table for the instructions that access memory: equations on concrete scenes, and what each row needs.
 use Rattle.std.specs.Prelude.{ℕ, None, Some, List, [], ◌∷◌}
 use Rattle.dash_base.specs.declared.line.Line.{Line}
+use Rattle.dash_event.specs.declared.access.Op.TheVariants as op
 use Rattle.dash_event.specs.declared.access.Seen.{Seen}
 use Rattle.dash_event.specs.declared.access.Seen.TheVariants as seen
 use Rattle.dash_event.specs.declared.event.Kind.{Kind}
@@ -10,7 +11,7 @@ use Rattle.dash_model.specs.Maps.{most}
 use Rattle.dash_model.specs.Config.{hart_id, line_id}
 use Rattle.dash_model.specs.Cell.{Held, Asked, Refused, Reads, Owns, Counting, Expects}
 use Rattle.dash_model.specs.TableParts.{Scene, empty, Makes, May, Never, at, new, calm, Becomes, line}
-use Rattle.dash_model.specs.TableCode.{addi, lw, sw, lr, sc, amoadd, amoadd_rl, loads, reserves, stores, adds, swaps, fails, plain, release, half, whole, far_away}
+use Rattle.dash_model.specs.TableCode.{access, addi, lw, sw, lr, sc, amoadd, amoadd_rl, loads, reserves, stores, adds, swaps, fails, plain, release, half, whole, far_away}
 use Rattle.dash_model.specs.TableHarts.{owing, owing_beside}
 
 -- hart 2 is a holder of line 6, or its owner, and its instruction is this
@@ -90,7 +91,7 @@ pub record RowsOfCommit : Type 0 where
   pub it_may_happen_while_the_line_is_pending : May 1 (commits 1 8) (record ready { acks = Counting 0 [] })
   pub then_it_is_owed_the_acknowledgements : Makes 1 (commits 1 8) (record ready { acks = Expects 2 1 (3 ∷ []) }) (record done { acks = Expects 2 1 (2 ∷ 3 ∷ []) }) []
   pub also_where_it_is_not_known_how_many_come : Makes 1 (commits 1 8) (record ready { acks = Counting 1 [] }) (record done { acks = Counting 1 (2 ∷ []) }) []
-  pub a_version_stays_at_its_greatest : Makes 1 (commits 1 8) (with_line (record new { version = most }) ready) (with_line (record committed { version = most }) done) []
+  pub a_version_stays_at_its_greatest : Makes 1 (commits 1 most) (with_line (record new { version = most }) ready) (with_line (record committed { version = most }) done) []
   pub never_without_an_owner : Never 1 (commits 1 8) (record ready { copy = Held (2 ∷ []) None new })
   pub never_beside_another_holder : Never 1 (commits 1 8) (record ready { copy = Held (2 ∷ 3 ∷ []) (Some 2) new })
   pub never_where_another_hart_owns : Never 1 (commits 1 8) (record ready { copy = Held (3 ∷ []) (Some 3) new })
@@ -115,6 +116,7 @@ pub record RowsOfRmw : Type 0 where
   pub never_beside_another_holder : Never 1 (adds plain 2 9 8) (record (owning amoadd) { copy = Held (2 ∷ 3 ∷ []) (Some 2) new })
   pub never_of_a_pending_line : Never 1 (adds plain 2 9 8) (record (owning amoadd) { acks = Expects 2 1 [] })
   pub never_past_a_store_to_the_word : Never 1 (adds plain 2 9 8) (waiting (half ∷ []) (owning amoadd))
+  pub never_as_a_commit_of_another_line : Never 1 (kind.Rmw (access op.Amo plain (Some 2) (Some 9) (seen.Line 7)) (line_id 22) 8) (record (owning amoadd) { other = record empty { copy = Held (2 ∷ []) (Some 2) new } })
   pub never_of_another_value : Never 1 (adds plain 3 10 8) (owning amoadd)
   pub never_as_another_version : Never 1 (adds plain 2 9 9) (owning amoadd)
   pub never_of_a_hart_of_another_cluster : Never 2 (adds plain 2 9 8) (owning amoadd)
@@ -137,6 +139,7 @@ pub record RowsOfScFail : Type 0 where
   pub never_while_its_front_slot_is_open : Never 1 fails (record (calm sc) { slot = Owns 0 2 Refused })
   pub never_while_that_slot_has_another_line : Never 1 fails (record (calm sc) { other = record empty { slot = Reads 0 2 Asked } })
   pub also_while_another_slot_is_open : May 1 fails (record (calm sc) { slot = Owns 1 3 Asked })
+  pub never_with_a_value : Never 1 (kind.ScFail (access op.Cond plain None (Some 7) seen.Nothing)) (calm sc)
   pub never_of_another_atomic_operation : Never 1 fails (calm amoadd)
   pub never_of_a_hart_of_another_cluster : Never 2 fails (calm sc)
 

@@ -10,7 +10,7 @@ use Rattle.dash_base.specs.declared.need.HintKind.{HintKind}
 use Rattle.dash_base.specs.declared.need.HintKind.TheVariants.{Exclusive, Shared}
 use Rattle.hart_core.specs.HartState.{HartState}
 use Rattle.dash_base.specs.declared.need.Need.TheVariants as needed
-use Rattle.dash_model.specs.Config.{hart_id, line_id}
+use Rattle.dash_model.specs.Config.{hart_id}
 use Rattle.dash_model.specs.Net.{to}
 use Rattle.dash_model.specs.Cell.{Held, Asked, Reads, Owns, Counting}
 use Rattle.dash_model.specs.Machine.{Machine, Step, after}
@@ -141,6 +141,7 @@ pub record RowsOfLockSend : Type 0 where
   pub never_twice : Never 1 (asking 4) (record (calm lock) { asked = true })
   pub never_with_another_number : Never 1 (asking 5) (calm lock)
   pub never_of_an_addition : Never 1 (asking 4) (calm addi)
+  pub never_at_another_cluster : Never 2 (asking 4) (calm lock)
   pub an_unlock_may_be_sent : May 1 giving_back (calm unlock)
   pub it_goes_there_too : Makes 1 giving_back (calm unlock) (record (calm unlock) { asked = true }) (to 0 (Unlock (hart_id 2) 4 (at 65536)) ∷ [])
   pub an_unlock_never_twice : Never 1 giving_back (record (calm unlock) { asked = true })

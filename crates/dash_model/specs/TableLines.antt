@@ -3,7 +3,7 @@ use Rattle.std.specs.Prelude.{ℕ, true, false, None, Some, [], ◌∷◌}
 use Rattle.dash_event.specs.declared.event.Kind.{Kind}
 use Rattle.dash_event.specs.declared.event.Kind.TheVariants as kind
 use Rattle.dash_msg.specs.declared.msg.Msg.TheVariants.{Read, ReadEx, WriteBack}
-use Rattle.dash_model.specs.Config.{hart_id, line_id}
+use Rattle.dash_model.specs.Config.{hart_id}
 use Rattle.dash_model.specs.Net.{to}
 use Rattle.dash_model.specs.Cell.{Held, Asked, Poisoned, Came, Refused, Reads, Owns, Counting, Expects}
 use Rattle.dash_model.specs.TableParts.{Scene, empty, Makes, May, Never, old, new, calm, line}
@@ -32,6 +32,7 @@ pub record RowsOfBusRead : Type 0 where
   pub it_may_happen : May 1 reads (beside_a_holder lw)
   pub it_is_a_holder_too : Makes 1 reads (beside_a_holder lw) (record (calm lw) { copy = Held (2 ∷ 3 ∷ []) None new }) []
   pub also_beside_an_owner_who_stays_the_owner : Makes 1 reads (beside_an_owner lw) (record (calm lw) { copy = Held (2 ∷ 3 ∷ []) (Some 3) new }) []
+  pub also_with_a_line_of_another_index : May 1 reads (record (beside_a_holder lw) { apart = record empty { copy = Held (2 ∷ []) None old } })
   pub an_lr_may_too : May 1 reads (beside_a_holder lr)
   pub never_where_it_is_a_holder : Never 1 reads (record (calm lw) { copy = Held (2 ∷ 3 ∷ []) None new })
   pub never_where_the_cluster_has_no_copy : Never 1 reads (calm lw)
@@ -95,6 +96,7 @@ pub record RowsOfEvict : Type 0 where
   pub never_for_what_another_hart_wants : Never 1 evicts (record (holding addi) { other = record empty { slot = Reads 0 3 (Came old) } })
   pub never_for_a_line_that_has_not_come : Never 1 evicts (record (holding addi) { other = record empty { slot = Reads 0 2 Asked } })
   pub never_for_a_line_to_read_that_its_cluster_has_not_got : Never 1 evicts (holding lw_other)
+  pub never_for_a_line_of_another_index : Never 1 evicts (record (holding addi) { apart = record empty { slot = Reads 0 2 (Came old) } })
   pub never_for_the_line_itself : Never 1 evicts (record (holding addi) { slot = Owns 0 2 (Came old) })
   pub never_at_another_cluster : Never 2 evicts (wanting (holding addi))
   pub the_owner_leaves_no_copy_and_writes_back : Makes 1 evicts (both_reserved (wanting owning_beside)) (wanting (calm addi)) (to 2 (WriteBack line new) ∷ [])

@@ -64,7 +64,7 @@ config_of word = record {
   top = small;
 }
 
--- what of a cluster may vary: the word of hart 2's next instruction; of hart 2 all that it has; of hart 3, which holds no store, its reservation and L1; of line 6 what the cluster has; line 22, which has the same index in L2; line 6 at its home; and lock word 0
+-- what of a cluster may vary: the word of hart 2's next instruction; of hart 2 all that it has; of hart 3, which holds no store, its reservation and L1; of line 6 what the cluster has; line 22, which has the same index in L2, and line 7, which has another one; line 6 at its home; and lock word 0
 pub record Scene : Type 0 where
   pub word : ℕ
   pub core : HartState
@@ -78,6 +78,7 @@ pub record Scene : Type 0 where
   pub slot : Slot
   pub acks : Acks
   pub other : Cell
+  pub apart : Cell
   pub home : Home
   pub lock : Lock
 
@@ -89,7 +90,7 @@ empty = record { copy = NoCopy; slot = NoSlot; acks = NoAcks }
 abbrev pub part_of : Scene → Part
 part_of s = record {
   harts = λ h. cond (h == 2) (record { core = s.core; reserved = s.reserved; buffer = s.buffer; asked = s.asked; l1 = λ i. s.l1 }) (record { core = s.core; reserved = s.reserved_beside; buffer = []; asked = false; l1 = λ i. s.near_beside });
-  cells = λ l. cond (l == 6) (record { copy = s.copy; slot = s.slot; acks = s.acks }) (cond (l == 22) s.other empty);
+  cells = λ l. cond (l == 6) (record { copy = s.copy; slot = s.slot; acks = s.acks }) (cond (l == 22) s.other (cond (l == 7) s.apart empty));
   homes = λ l. s.home;
   locks = λ i. s.lock;
   last = 0;
@@ -110,6 +111,7 @@ scene_in word p = record {
   slot = (p.cells 6).slot;
   acks = (p.cells 6).acks;
   other = p.cells 22;
+  apart = p.cells 7;
   home = p.homes 6;
   lock = p.locks 0;
 }
@@ -190,6 +192,7 @@ calm word = record {
   slot = NoSlot;
   acks = NoAcks;
   other = empty;
+  apart = empty;
   home = home_with Uncached;
   lock = record { value = 0; count = 0; queue = [] };
 }
