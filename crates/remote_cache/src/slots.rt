@@ -84,10 +84,11 @@ impl Slots {
         search::number_of(&self.slots, line).map(|id| id as u32)
     }
 
-    /// A request for a line was sent. The slot is empty, as `get` says, and no slot has the line, as
-    /// `of_line` says.
+    /// A request for a line was sent, for a hart of the cluster by its number there. The slot is empty,
+    /// as `get` says, and no slot has the line, as `of_line` says.
     pub fn issue(&mut self, id: u32, hart: u32, line: LineId, own: bool)
         requires in_range { id < count self.old }
+        requires local { hart < self.old.harts }
         requires empty { slot_at self.old id ≡ None }
         requires no_other { slot_of self.old line.0 ≡ None }
         ensures { self.new ≡ with_slot self.old id (Some (issued hart line own)) }

@@ -27,15 +27,16 @@ const DATA_EX: Msg = Msg::DataEx {
 
 const NAK: Msg = Msg::Nak { line: LINE };
 
-/// Issues a request where the slot is there and empty, and no slot has the line. The answer says
-/// whether it did.
+/// Issues a request of hart 0, or 1 where there are two, where the slot is there and empty, and no
+/// slot has the line. The answer says whether it did.
 fn issue(slots: &mut Slots, id: u32, line: LineId, own: bool) -> bool {
-    if id >= slots.count() {
+    let first_prefetch = slots.first_prefetch();
+    if id >= slots.count() || first_prefetch == 0 {
         return false;
     }
     match (slots.get(id), slots.of_line(line)) {
         (None, None) => {
-            slots.issue(id, 1, line, own);
+            slots.issue(id, first_prefetch / 4, line, own);
             true
         }
         _ => false,
