@@ -270,6 +270,21 @@ fn segments_have_their_bytes_and_zeros_behind_them(rt: HostRuntime) -> Result<()
 }
 
 #[test]
+fn forty_segments_are_loaded(rt: HostRuntime) -> Result<(), Fail> {
+    let mut headers = Vec::new(rt.alloc());
+    for i in 0..40_u32 {
+        headers.push([1, 0, 0x1000 + 16 * i, 4, 8, 5])?;
+    }
+    let bytes = file_of(rt.alloc(), 0x1270, headers.as_slice())?;
+    let image = load(rt.alloc(), &bytes, MEMORY)?;
+    assert_eq!(rt; image.segments().len(), 40);
+    for address in [0x1000, 0x1100, 0x1270] {
+        assert_eq!(rt; image.fetch(address), Some(0x464c_457f), "at {address}");
+    }
+    Ok(())
+}
+
+#[test]
 fn a_file_that_ends_early_is_short(rt: HostRuntime) -> Result<(), Fail> {
     let refusal = load(rt.alloc(), &HEADERS[..60], MEMORY).err();
     assert_eq!(rt; refusal, Some(LoadRefusal::Short { at: 60 }));

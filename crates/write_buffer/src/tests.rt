@@ -62,7 +62,7 @@ fn random_entry(state: &mut u64, number: u32) -> Entry {
 
 #[test]
 fn random_calls_meet_a_plain_list(rt: HostRuntime) -> Result<(), Fail> {
-    for (seed, capacity) in [(1, 1_u32), (2, 2), (3, 4), (4, 16)] {
+    for (seed, capacity) in [(1, 1_u32), (2, 2), (3, 4), (4, 16), (5, 3)] {
         let mut state = seed;
         let mut buffer = Buffer::new(rt.alloc(), capacity)?;
         let mut plain = Vec::new(rt.alloc());
