@@ -32,13 +32,6 @@ lines-without_line a l = refl
 
 pub ruleset array_reads = (copy_at-empty_array, copy_at-with_copy, copy_at-without_line, lines-empty_array, lines-with_copy, lines-without_line)
 
--- two arrays of as many indexes, with the same copy of each line, are equal
-pub same_array : (a b : ArrayView) → a.lines ≡ b.lines → ((q : ℕ) → copy_at a q ≡ copy_at b q) → a ≡ b
-unfolding copy_at
-same_array a b lines copies =
-    let same = same_nat_map a.copies b.copies copies in
-    λ i. record { lines = lines i; copies = same i }
-
 -- once the other line of its index is gone, a line has room
 pub room_without_other : (a : ArrayView) (line other : ℕ) → IsOnePerIndex a → IsOther a line other → HasRoom (without_line a other) line
 room_without_other a line other one is = record {

@@ -32,53 +32,53 @@ send-burst w net l t a r cs m =
     omega arith
 
 -- a weight that no invalidation has
-free : (w : Packet → ℕ) (l : LineId) (t a r : ℕ) → ((c : ℕ) → w (packet t a (to c (Inval l (cluster_id r)))) ≡ 0) → (cs : List ℕ)
+weightless : (w : Packet → ℕ) (l : LineId) (t a r : ℕ) → ((c : ℕ) → w (packet t a (to c (Inval l (cluster_id r)))) ≡ 0) → (cs : List ℕ)
     → weigh w (burst l t a r cs) ≡ 0
 unfolding burst weigh invals_to
-free w l t a r f [] = refl
-free w l t a r f (c ∷ cs) =
+weightless w l t a r f [] = refl
+weightless w l t a r f (c ∷ cs) =
     let e = f c in
-    let ih = free w l t a r f cs in
+    let ih = weightless w l t a r f cs in
     omega arith
 
 pub reads-burst : (x : ℕ) (l : LineId) (t a r : ℕ) (cs : List ℕ) → weigh (reads x) (burst l t a r cs) ≡ 0
-reads-burst x l t a r cs = free (reads x) l t a r (λ c. refl) cs
+reads-burst x l t a r cs = weightless (reads x) l t a r (λ c. refl) cs
 
 pub datas-burst : (x : ℕ) (l : LineId) (t a r : ℕ) (cs : List ℕ) → weigh (datas x) (burst l t a r cs) ≡ 0
-datas-burst x l t a r cs = free (datas x) l t a r (λ c. refl) cs
+datas-burst x l t a r cs = weightless (datas x) l t a r (λ c. refl) cs
 
 pub wants-burst : (x : ℕ) (l : LineId) (t a r : ℕ) (cs : List ℕ) → weigh (wants x) (burst l t a r cs) ≡ 0
-wants-burst x l t a r cs = free (wants x) l t a r (λ c. refl) cs
+wants-burst x l t a r cs = weightless (wants x) l t a r (λ c. refl) cs
 
 pub brings-burst : (x : ℕ) (l : LineId) (t a r : ℕ) (cs : List ℕ) → weigh (brings x) (burst l t a r cs) ≡ 0
-brings-burst x l t a r cs = free (brings x) l t a r (λ c. refl) cs
+brings-burst x l t a r cs = weightless (brings x) l t a r (λ c. refl) cs
 
 pub naks-burst : (x : ℕ) (l : LineId) (t a r : ℕ) (cs : List ℕ) → weigh (naks x) (burst l t a r cs) ≡ 0
-naks-burst x l t a r cs = free (naks x) l t a r (λ c. refl) cs
+naks-burst x l t a r cs = weightless (naks x) l t a r (λ c. refl) cs
 
 pub gives_back-burst : (x : ℕ) (l : LineId) (t a r : ℕ) (cs : List ℕ) → weigh (gives_back x) (burst l t a r cs) ≡ 0
-gives_back-burst x l t a r cs = free (gives_back x) l t a r (λ c. refl) cs
+gives_back-burst x l t a r cs = weightless (gives_back x) l t a r (λ c. refl) cs
 
 pub leaves-burst : (x : ℕ) (l : LineId) (t a r : ℕ) (cs : List ℕ) → weigh (leaves x) (burst l t a r cs) ≡ 0
-leaves-burst x l t a r cs = free (leaves x) l t a r (λ c. refl) cs
+leaves-burst x l t a r cs = weightless (leaves x) l t a r (λ c. refl) cs
 
 pub gains-burst : (x : ℕ) (l : LineId) (t a r : ℕ) (cs : List ℕ) → weigh (gains x) (burst l t a r cs) ≡ 0
-gains-burst x l t a r cs = free (gains x) l t a r (λ c. refl) cs
+gains-burst x l t a r cs = weightless (gains x) l t a r (λ c. refl) cs
 
 pub acks_to-burst : (x : ℕ) (l : LineId) (t a r : ℕ) (cs : List ℕ) → weigh (acks_to x) (burst l t a r cs) ≡ 0
-acks_to-burst x l t a r cs = free (acks_to x) l t a r (λ c. refl) cs
+acks_to-burst x l t a r cs = weightless (acks_to x) l t a r (λ c. refl) cs
 
 pub counts_to-burst : (x : ℕ) (l : LineId) (t a r : ℕ) (cs : List ℕ) → weigh (counts_to x) (burst l t a r cs) ≡ 0
-counts_to-burst x l t a r cs = free (counts_to x) l t a r (λ c. refl) cs
+counts_to-burst x l t a r cs = weightless (counts_to x) l t a r (λ c. refl) cs
 
 pub shares-burst : (x : ℕ) (l : LineId) (t a r : ℕ) (cs : List ℕ) → weigh (shares x) (burst l t a r cs) ≡ 0
-shares-burst x l t a r cs = free (shares x) l t a r (λ c. refl) cs
+shares-burst x l t a r cs = weightless (shares x) l t a r (λ c. refl) cs
 
 pub misrouted-burst : (h : ℕ) (l : LineId) (t r : ℕ) (cs : List ℕ) → weigh (misrouted h) (burst l t h r cs) ≡ 0
-misrouted-burst h l t r cs = free (misrouted h) l t h r (λ c. let e : (h == h) ≡ true = grind (arith, nat_tests) in ap (λ b. cond {A = ℕ} b 0 1) e) cs
+misrouted-burst h l t r cs = weightless (misrouted h) l t h r (λ c. let e : (h == h) ≡ true = grind (arith, nat_tests) in ap (λ b. cond {A = ℕ} b 0 1) e) cs
 
 pub back_any-burst : (l : LineId) (t a r : ℕ) (cs : List ℕ) → weigh back_any (burst l t a r cs) ≡ 0
-back_any-burst l t a r cs = free back_any l t a r (λ c. refl) cs
+back_any-burst l t a r cs = weightless back_any l t a r (λ c. refl) cs
 
 pub invals-burst : (x : ℕ) (l : LineId) (t a r : ℕ) (cs : List ℕ) → weigh (invals x) (burst l t a r cs) ≡ cond (r == x) (length cs) 0
 unfolding burst weigh invals_to
@@ -115,13 +115,13 @@ invals_at-burst x l t a r [] n m = absurd (cc)
 invals_at-burst x l t a r (c ∷ cs) n m = at_tail x l t a r c cs (c == r) (c == x) refl refl n m (λ k. invals_at-burst x l t a r cs n k)
 
 pub old_brings-burst : (v : Line) (x : ℕ) (l : LineId) (t a r : ℕ) (cs : List ℕ) → weigh (old_brings v x) (burst l t a r cs) ≡ 0
-old_brings-burst v x l t a r cs = free (old_brings v x) l t a r (λ c. refl) cs
+old_brings-burst v x l t a r cs = weightless (old_brings v x) l t a r (λ c. refl) cs
 
 pub old_backs-burst : (v : Line) (x : ℕ) (l : LineId) (t a r : ℕ) (cs : List ℕ) → weigh (old_backs v x) (burst l t a r cs) ≡ 0
-old_backs-burst v x l t a r cs = free (old_backs v x) l t a r (λ c. refl) cs
+old_backs-burst v x l t a r cs = weightless (old_backs v x) l t a r (λ c. refl) cs
 
 pub old_datas-burst : (v : Line) (x : ℕ) (l : LineId) (t a r : ℕ) (cs : List ℕ) → weigh (old_datas v x) (burst l t a r cs) ≡ 0
-old_datas-burst v x l t a r cs = free (old_datas v x) l t a r (λ c. refl) cs
+old_datas-burst v x l t a r cs = weightless (old_datas v x) l t a r (λ c. refl) cs
 
 pub ruleset vbursts = (send-burst, old_brings-burst, old_backs-burst, old_datas-burst)
 

@@ -266,7 +266,7 @@ h5 = record { cluster = omega arith; head = refl; steps = record { cluster = ref
 
 h6 : CanHappen config m5 s6
 unfolding Guard row head tail send newest_of word_among byte_among merged member without with_member invals_to total
-h6 = record { cluster = omega arith; head = tt; steps = record { cluster = refl; stamp = refl; guard = record { mine = refl; free = refl; waiter = record { hart = 0; number = 4; value = 1 }; others = []; queue = refl; access = record { made = refl; seen_is = refl } } } }
+h6 = record { cluster = omega arith; head = tt; steps = record { cluster = refl; stamp = refl; guard = record { mine = refl; is_zero = refl; waiter = record { hart = 0; number = 4; value = 1 }; others = []; queue = refl; access = record { made = refl; seen_is = refl } } } }
 
 h7 : CanHappen config m6 s7
 unfolding Guard row head tail send newest_of word_among byte_among merged member without with_member invals_to total

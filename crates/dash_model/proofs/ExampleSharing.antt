@@ -258,7 +258,7 @@ h12 = record { cluster = omega arith; head = tt; steps = record { cluster = refl
 
 h13 : CanHappen config m12 s13
 unfolding Guard row head tail send newest_of word_among byte_among merged member without with_member invals_to total
-h13 = record { cluster = omega arith; head = tt; steps = record { cluster = refl; stamp = refl; guard = record { mine = refl; holder = refl; other = 16; differs = λ e. omega arith; index = refl; wants = ToRead (record { need = load_need; needs = needs_load1; loads = (refl, refl); lacks = refl }) refl; free = inl refl } } }
+h13 = record { cluster = omega arith; head = tt; steps = record { cluster = refl; stamp = refl; guard = record { mine = refl; holder = refl; other = 16; differs = λ e. omega arith; index = refl; wants = ToRead (record { need = load_need; needs = needs_load1; loads = (refl, refl); lacks = refl }) refl; may_leave = inl refl } } }
 
 h14 : CanHappen config m13 s14
 unfolding Guard row head tail send newest_of word_among byte_among merged member without with_member invals_to total

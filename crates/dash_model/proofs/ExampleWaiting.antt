@@ -120,7 +120,7 @@ h2 = record { cluster = omega arith; head = refl; steps = record { cluster = ref
 
 h3 : CanHappen config m2 s3
 unfolding Guard row head tail send newest_of word_among byte_among merged member without with_member invals_to total
-h3 = record { cluster = omega arith; head = tt; steps = record { cluster = refl; stamp = refl; guard = record { mine = refl; free = refl; waiter = record { hart = 0; number = 1; value = 1 }; others = []; queue = refl; access = record { made = refl; seen_is = refl } } } }
+h3 = record { cluster = omega arith; head = tt; steps = record { cluster = refl; stamp = refl; guard = record { mine = refl; is_zero = refl; waiter = record { hart = 0; number = 1; value = 1 }; others = []; queue = refl; access = record { made = refl; seen_is = refl } } } }
 
 h4 : CanHappen config m3 s4
 unfolding Guard row head tail send newest_of word_among byte_among merged member without with_member invals_to total

@@ -79,11 +79,11 @@ unwanted (ToOwn n h) a r f s = elim n [ inl x ↦ f x h | inr x ↦ s x h ]
 evict : RowsOfEvict
 unfolding row Guard newest_of member without
 evict = record {
-  a_holder_for_a_line_that_came = (code.nothing, record { mine = refl; holder = refl; other = 22; differs = λ e. omega arith; index = refl; wants = ToInstall refl; free = inl refl });
-  a_holder_for_a_line_to_read_in_its_cluster = (code.nothing, record { mine = refl; holder = refl; other = 22; differs = λ e. omega arith; index = refl; wants = ToRead (record { need = needed.Load (at 352) 15 plain false; needs = code.needs_lw_other; loads = (refl, refl); lacks = refl }) refl; free = inl refl });
-  an_owner_may_too = (code.nothing, record { mine = refl; holder = refl; other = 22; differs = λ e. omega arith; index = refl; wants = ToInstall refl; free = inl refl });
-  a_holder_beside_an_owner_while_the_line_is_pending = (code.nothing, record { mine = refl; holder = refl; other = 22; differs = λ e. omega arith; index = refl; wants = ToInstall refl; free = inr refl });
-  an_owner_never_while_the_line_is_pending = λ d g. elim g.free [ inl e ↦ cc | inr e ↦ cc ];
+  a_holder_for_a_line_that_came = (code.nothing, record { mine = refl; holder = refl; other = 22; differs = λ e. omega arith; index = refl; wants = ToInstall refl; may_leave = inl refl });
+  a_holder_for_a_line_to_read_in_its_cluster = (code.nothing, record { mine = refl; holder = refl; other = 22; differs = λ e. omega arith; index = refl; wants = ToRead (record { need = needed.Load (at 352) 15 plain false; needs = code.needs_lw_other; loads = (refl, refl); lacks = refl }) refl; may_leave = inl refl });
+  an_owner_may_too = (code.nothing, record { mine = refl; holder = refl; other = 22; differs = λ e. omega arith; index = refl; wants = ToInstall refl; may_leave = inl refl });
+  a_holder_beside_an_owner_while_the_line_is_pending = (code.nothing, record { mine = refl; holder = refl; other = 22; differs = λ e. omega arith; index = refl; wants = ToInstall refl; may_leave = inr refl });
+  an_owner_never_while_the_line_is_pending = λ d g. elim g.may_leave [ inl e ↦ cc | inr e ↦ cc ];
   never_where_it_is_no_holder = λ d g. let e = g.holder in cc;
   never_where_nothing_is_wanted = λ d g. unwanted g.wants (came_beside _ 2 _ _ _ g.differs (λ m. m) (λ m. m)) (λ r h. loads_of r code.needs_addi) (λ f h. writes_of f code.needs_addi) (λ s h. s.oldest);
   never_for_what_another_hart_wants = λ d g. unwanted g.wants (came_beside _ 2 _ _ _ g.differs (λ m. omega arith) (λ m. m)) (λ r h. loads_of r code.needs_addi) (λ f h. writes_of f code.needs_addi) (λ s h. s.oldest);

@@ -37,10 +37,10 @@ one_waiter a b xs ys e = cc
 grant : RowsOfGrant
 unfolding row Guard
 grant = record {
-  it_may_happen = (code.nothing, record { mine = refl; free = refl; waiter = first; others = second ∷ []; queue = refl; access = record { made = refl; seen_is = refl } });
+  it_may_happen = (code.nothing, record { mine = refl; is_zero = refl; waiter = first; others = second ∷ []; queue = refl; access = record { made = refl; seen_is = refl } });
   the_first_leaves_and_the_word_is_what_it_asked_for = λ d. refl;
   a_count_stays_at_its_greatest = λ d. refl;
-  never_of_a_word_that_is_not_0 = λ d g. let e = g.free in omega arith;
+  never_of_a_word_that_is_not_0 = λ d g. let e = g.is_zero in omega arith;
   never_where_nobody_waits = λ d g. let e = g.queue in cc;
   never_to_the_second = λ d g. let e = ap hart_of g.access.made in let f = ap (λ x. x.hart) (one_waiter first g.waiter _ _ g.queue) in omega arith;
   never_with_another_value = λ d g. let f = ap (λ x. x.value) (one_waiter first g.waiter _ _ g.queue) in apart 9 g.waiter.value (ap written_of g.access.made) (λ e. omega arith);

@@ -148,7 +148,7 @@ view w c (kind.ScFail a) d p t g = quiet_view w (kind.ScFail a) p (row w c (kind
 view w c (kind.LockSend h m) d p t g = Still (record { cells = λ l. refl; homes = λ l. refl; sent = λ l. (lock_sent h.0 l m g.need p g.sends, tt); keeps = λ l v. refl })
 view w c (kind.BusRead h k) d p t g = plain w (kind.BusRead h k) p (row w c (kind.BusRead h k) d p).part k.0 (BusRead h.0) tt (λ l. refl) (λ l. refl) (λ l v. refl) (λ v. refl)
 view w c (kind.BusOwn h k) d p t g = plain w (kind.BusOwn h k) p (row w c (kind.BusOwn h k) d p).part k.0 (BusOwn h.0) tt (λ l. refl) (λ l. refl) (λ l v. refl) (λ v. refl)
-view w c (kind.Evict h k) d p t g = plain w (kind.Evict h k) p (row w c (kind.Evict h k) d p).part k.0 (evict_act h.0 (p.cells k.0).copy) (evict_may h.0 (p.cells k.0) (is_owner h.0 (p.cells k.0).copy) refl g.free) (λ l. refl) (λ l. refl) (λ l v. refl) (λ v. evict_keeps v h.0 (is_owner h.0 (p.cells k.0).copy))
+view w c (kind.Evict h k) d p t g = plain w (kind.Evict h k) p (row w c (kind.Evict h k) d p).part k.0 (evict_act h.0 (p.cells k.0).copy) (evict_may h.0 (p.cells k.0) (is_owner h.0 (p.cells k.0).copy) refl g.may_leave) (λ l. refl) (λ l. refl) (λ l v. refl) (λ v. evict_keeps v h.0 (is_owner h.0 (p.cells k.0).copy))
 view w c (kind.Ask slot h k own) d p t g = plain w (kind.Ask slot h k own) p (row w c (kind.Ask slot h k own) d p).part k.0 (ask_act own slot h.0) (ask_may w c slot h.0 k.0 own p g.may) (λ l. refl) (λ l. refl) (λ l v. refl) (ask_keeps own slot h.0)
 view w c (kind.Again slot k) d p t g = plain w (kind.Again slot k) p (row w c (kind.Again slot k) d p).part k.0 Again tt (λ l. refl) (λ l. refl) (λ l v. refl) (λ v. refl)
 view w c (kind.Install slot h k) d p t g = plain w (kind.Install slot h k) p (row w c (kind.Install slot h k) d p).part k.0 Install tt (λ l. refl) (λ l. refl) (λ l v. refl) (λ v. refl)

@@ -20,7 +20,7 @@ use Rattle.dash_model.specs.LineGuards.{BusReadFits, BusOwnFits, EvictFits, AskF
 -- Grant: a lock word of this home is 0, and its queue is not empty
 pub record GrantFits (w : Config) (c : ℕ) (a : Access) (p : Part) : Type 0 where
   pub mine : own_lock w c a.word ≡ true
-  pub free : (p.locks (lock_at w a.word.0)).value ≡ 0
+  pub is_zero : (p.locks (lock_at w a.word.0)).value ≡ 0
   pub waiter : Waiter
   pub others : List Waiter
   pub queue : (p.locks (lock_at w a.word.0)).queue ≡ waiter ∷ others

@@ -29,7 +29,7 @@ pub record EvictFits (w : Config) (c h l : ℕ) (p : Part) : Type 0 where
   pub differs : other ≢ l
   pub index : other % w.top.l2 ≡ l % w.top.l2
   pub wants : Wants w h other p
-  pub free : ((p.cells l).acks ≡ NoAcks) ⊎ (is_owner h (p.cells l).copy ≡ false)
+  pub may_leave : ((p.cells l).acks ≡ NoAcks) ⊎ (is_owner h (p.cells l).copy ≡ false)
 
 -- Ask: the slot may ask
 pub record AskFits (w : Config) (c n h l : ℕ) (own : Bool) (p : Part) : Type 0 where
