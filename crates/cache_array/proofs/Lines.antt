@@ -4,7 +4,7 @@ use Rattle.std.specs.Prelude.{◌==◌}
 use Rattle.std.proofs.lemmas.Bool.Decides.{nat_tests}
 use Rattle.dash_base.specs.declared.line.Line.{Line}
 use Rattle.cache_array.specs.View.{ArrayView, copy_at, has_line, empty_array, with_copy, without_line, HasRoom, IsOther, IsOnePerIndex}
-use Rattle.cache_array.proofs.LineMaps.{get-empty_nat, get-insert_nat, get-remove_nat, same_nat_map}
+use Rattle.cache_array.proofs.LineMaps.{get-empty_nat, get-insert_nat, get-remove_nat}
 
 pub copy_at-empty_array : (lines q : ℕ) → copy_at (empty_array lines) q ≡ None
 unfolding copy_at empty_array

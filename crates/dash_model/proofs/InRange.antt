@@ -1,5 +1,5 @@
 -- Each message of a run is of a line of memory or of a lock word, and in range.
-use Rattle.std.proofs.Common.{◌≡◌, ◌⊎◌, ℕ, ◌≤◌, ◌<◌, ◌==◌, Bool, true, false, cond, List, [], ◌∷◌, refl, sym, ap, subst, inl, inr, arith}
+use Rattle.std.proofs.Common.{◌≡◌, ◌⊎◌, ℕ, ◌≤◌, ◌<◌, ◌==◌, Bool, true, false, cond, List, [], ◌∷◌, refl, ap, subst, inl, inr, arith}
 use Rattle.std.proofs.lemmas.Bool.Decides.{nat_tests}
 use Rattle.dash_base.specs.declared.line.Line.{Line}
 use Rattle.dash_msg.specs.declared.msg.Msg.{Msg}
@@ -16,18 +16,14 @@ use Rattle.dash_model.proofs.Tests.{same, below, both}
 use Rattle.dash_model.proofs.LineState.{State}
 use Rattle.dash_model.proofs.Facts.{misrouted}
 use Rattle.dash_model.proofs.Steps.{Invariant}
-use Rattle.dash_model.proofs.Bounds.{Named, AllNamed, Bounded}
+use Rattle.dash_model.proofs.OnNet.{all-member}
+use Rattle.dash_model.proofs.Bounds.{PacketNamed, Bounded}
 use Rattle.dash_model.proofs.Along.{along}
 use Rattle.dash_model.proofs.Taken.{line_in, home_in}
 use Rattle.dash_model.proofs.Reached.{each_reached}
 use Rattle.dash_model.proofs.Nowhere.{nowhere}
 use Rattle.dash_model.proofs.Each.{each_member}
 use Rattle.dash_model.proofs.LockRange.{LockFits, locks_fit}
-
-named_member : (n : ℕ) (q : Packet) (net : List Packet) → IsOnItsWay q net → AllNamed n net → (q.src < n) × Named n q.msg
-named_member n q [] i h = absurd i
-named_member n q (p ∷ ps) (inl e) h = subst (λ (y : Packet). (y.src < n) × Named n y.msg) (sym e) h.0
-named_member n q (p ∷ ps) (inr i) h = named_member n q ps i h.1
 
 on_member_by : (l : ℕ) (q p : Packet) (ps : List Packet) (b : Bool) → is_of l p.msg ≡ b → is_of l q.msg ≡ true → (q ≡ p) ⊎ IsOnItsWay q (on l ps) → IsOnItsWay q (cond b (p ∷ on l ps) (on l ps))
 on_member_by l q p ps true e o i = i
@@ -57,12 +53,12 @@ at_target w l v a b u m s o i e = is_home (home_of w l) b (weigh (misrouted (hom
 range_by : (w : Config) (l : ℕ) (v : Line) (a b u : ℕ) (m : Msg) (s : State) → l < lines w → is_of l m ≡ true → IsOnItsWay (parcel a b m u) s.net → Invariant (home_of w l) v s → Bounded w.top.clusters s → in_range w b m ≡ true
 range_by w l v a b u (Read k) s low e o i n = home_in w b k l e low (at_target w l v a b u (Read k) s o i refl)
 range_by w l v a b u (ReadEx k) s low e o i n = home_in w b k l e low (at_target w l v a b u (ReadEx k) s o i refl)
-range_by w l v a b u (FwdRead k r) s low e o i n = both (has_line w k) (has_cluster w r) (line_in w k l e low) (below r.0 w.top.clusters (named_member w.top.clusters (parcel a b (FwdRead k r) u) s.net o n.net).1)
-range_by w l v a b u (FwdReadEx k r) s low e o i n = both (has_line w k) (has_cluster w r) (line_in w k l e low) (below r.0 w.top.clusters (named_member w.top.clusters (parcel a b (FwdReadEx k r) u) s.net o n.net).1)
-range_by w l v a b u (Inval k r) s low e o i n = both (has_line w k) (has_cluster w r) (line_in w k l e low) (below r.0 w.top.clusters (named_member w.top.clusters (parcel a b (Inval k r) u) s.net o n.net).1)
+range_by w l v a b u (FwdRead k r) s low e o i n = both (has_line w k) (has_cluster w r) (line_in w k l e low) (below r.0 w.top.clusters (all-member (PacketNamed w.top.clusters) (parcel a b (FwdRead k r) u) s.net o n.net).1)
+range_by w l v a b u (FwdReadEx k r) s low e o i n = both (has_line w k) (has_cluster w r) (line_in w k l e low) (below r.0 w.top.clusters (all-member (PacketNamed w.top.clusters) (parcel a b (FwdReadEx k r) u) s.net o n.net).1)
+range_by w l v a b u (Inval k r) s low e o i n = both (has_line w k) (has_cluster w r) (line_in w k l e low) (below r.0 w.top.clusters (all-member (PacketNamed w.top.clusters) (parcel a b (Inval k r) u) s.net o n.net).1)
 range_by w l v a b u (WriteBack k d) s low e o i n = home_in w b k l e low (at_target w l v a b u (WriteBack k d) s o i refl)
-range_by w l v a b u (SharingBack k d r) s low e o i n = both (at_home w b k) (has_cluster w r) (home_in w b k l e low (at_target w l v a b u (SharingBack k d r) s o i refl)) (below r.0 w.top.clusters (named_member w.top.clusters (parcel a b (SharingBack k d r) u) s.net o n.net).1)
-range_by w l v a b u (Transfer k r) s low e o i n = both (at_home w b k) (has_cluster w r) (home_in w b k l e low (at_target w l v a b u (Transfer k r) s o i refl)) (below r.0 w.top.clusters (named_member w.top.clusters (parcel a b (Transfer k r) u) s.net o n.net).1)
+range_by w l v a b u (SharingBack k d r) s low e o i n = both (at_home w b k) (has_cluster w r) (home_in w b k l e low (at_target w l v a b u (SharingBack k d r) s o i refl)) (below r.0 w.top.clusters (all-member (PacketNamed w.top.clusters) (parcel a b (SharingBack k d r) u) s.net o n.net).1)
+range_by w l v a b u (Transfer k r) s low e o i n = both (at_home w b k) (has_cluster w r) (home_in w b k l e low (at_target w l v a b u (Transfer k r) s o i refl)) (below r.0 w.top.clusters (all-member (PacketNamed w.top.clusters) (parcel a b (Transfer k r) u) s.net o n.net).1)
 range_by w l v a b u (LockAsk h x word y) s low e o i n = absurd (cc)
 range_by w l v a b u (Unlock h x word) s low e o i n = absurd (cc)
 range_by w l v a b u (Data k d) s low e o i n = line_in w k l e low

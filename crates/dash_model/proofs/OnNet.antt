@@ -1,7 +1,8 @@
 -- What holds of each message on its way, where one is taken and others are sent.
-use Rattle.std.proofs.Common.{◌≡◌, ℕ, Bool, true, false, cond, Some, List, [], ◌∷◌, ◌++◌, map, subst}
+use Rattle.std.proofs.Common.{◌≡◌, ℕ, Bool, true, false, cond, Some, List, [], ◌∷◌, ◌++◌, map, sym, subst, inl, inr}
 use Rattle.dash_msg.specs.declared.classes.Class.{Class}
 use Rattle.dash_msg.specs.declared.parcel.Sent.{Sent}
+use Rattle.dash_model.specs.LineFacts.{IsOnItsWay}
 use Rattle.dash_model.specs.Net.{Packet, packet, in_lane, head, tail, send}
 
 -- each message on its way has Q
@@ -44,3 +45,8 @@ module _ (Q : Packet → Type 0) where
   pub all-send : (t a : ℕ) (net : List Packet) (xs : List Sent) → AllOf Q net → AllSent (λ x. Q (packet t a x)) xs → AllOf Q (send net t a xs)
   unfolding send
   all-send t a net xs h k = all-append net (map (packet t a) xs) h (all-sent t a xs k)
+
+  pub all-member : (q : Packet) (net : List Packet) → IsOnItsWay q net → AllOf Q net → Q q
+  all-member q [] i h = absurd i
+  all-member q (p ∷ ps) (inl e) h = subst Q (sym e) h.0
+  all-member q (p ∷ ps) (inr i) h = all-member q ps i h.1

@@ -31,9 +31,10 @@ use Rattle.dash_model.specs.OnLine.{is_of, on, owned, came_own, brings_msg, brin
 use Rattle.dash_model.specs.LockFacts.{AllAreHarts, MessagesAreInRange, LinesAreOfMemory}
 use Rattle.dash_model.specs.Machine.{Machine, Step, taken, AtHead, less, CanHappen, after, Reaches}
 use Rattle.dash_model.proofs.Tests.{same, is_same, differ, is_below, both_left, one_same, one_other}
+use Rattle.dash_model.proofs.OnNet.{AllOf}
 use Rattle.dash_model.proofs.Each.{Each, EachSent, less_each, send_each, each_member}
 use Rattle.dash_model.proofs.Facts.{Place, AtHome, At, Back, Moving, holds, returns, moves_from, owner_in, dirty_of}
-use Rattle.dash_model.proofs.Bounds.{Strict, EntryBounded, Named, AllNamed, named-head}
+use Rattle.dash_model.proofs.Bounds.{Strict, EntryBounded, Named, PacketNamed, named-head}
 use Rattle.dash_model.proofs.Along.{AllAre, along, on-head}
 use Rattle.dash_model.proofs.LineSteps.{IsLineMsg}
 use Rattle.dash_model.proofs.Views.{View, Still, Does, IsNoTake, view}
@@ -183,12 +184,12 @@ unfolding weigh
 brings_none n x [] out h = refl
 brings_none n x (p ∷ ps) out h = let here = brings_by x p.src p.dst p.msg (above p.dst n x h.0 out) in let rest = brings_none n x ps out h.1 in omega arith
 
-gives_none : (n x : ℕ) (net : List Packet) → n ≤ x → AllNamed n net → weigh (gives_back x) net ≡ 0
+gives_none : (n x : ℕ) (net : List Packet) → n ≤ x → AllOf (PacketNamed n) net → weigh (gives_back x) net ≡ 0
 unfolding weigh
 gives_none n x [] out h = refl
 gives_none n x (p ∷ ps) out h = let here = gives_by x p.src p.dst p.msg (above p.src n x h.0.0 out) in let rest = gives_none n x ps out h.1 in omega arith
 
-leaves_none : (n x : ℕ) (net : List Packet) → n ≤ x → AllNamed n net → weigh (leaves x) net ≡ 0
+leaves_none : (n x : ℕ) (net : List Packet) → n ≤ x → AllOf (PacketNamed n) net → weigh (leaves x) net ≡ 0
 unfolding weigh
 leaves_none n x [] out h = refl
 leaves_none n x (p ∷ ps) out h = let here = leaves_by x p.src p.dst p.msg (above p.src n x h.0.0 out) in let rest = leaves_none n x ps out h.1 in omega arith

@@ -10,7 +10,7 @@ use Rattle.dash_base.specs.declared.id.LineId.{LineId}
 use Rattle.dash_event.specs.declared.access.Access.{Access}
 use Rattle.dash_event.specs.declared.access.Seen.TheVariants.{Line}
 use Rattle.dash_model.specs.History.{version_of}
-use Rattle.dash_model.specs.Config.{Config, lines}
+use Rattle.dash_model.specs.Config.{Config}
 use Rattle.dash_model.specs.Net.{Packet, packet, lane, head, tail, first, rest, send}
 use Rattle.dash_model.specs.Part.{Part, opening_part}
 use Rattle.dash_model.specs.Machine.{Machine, Step, stamp_of, Steps, event_of, part_after, taken, less, sends, puts, CanHappen, after, IsRun, Reaches}

@@ -1,5 +1,5 @@
 //! The slots of a cluster.
-ghost use Rattle.std.specs.Prelude.{◌≡◌, ◌<◌, ◌≤◌, ◌+◌, ◌*◌, IfSome, None, Some};
+ghost use Rattle.std.specs.Prelude.{◌≡◌, ◌<◌, ◌≤◌, ◌+◌, IfSome, None, Some};
 ghost use Rattle.dash_base.specs.Bounds.{IsBetween};
 ghost use Rattle.dash_base.specs.Places as places;
 ghost use Rattle.remote_cache.specs.View.{SlotsView, count, first_prefetch, is_prefetch, slot_at, slot_of, with_slot, empty_slots, IsOnePerLine};
