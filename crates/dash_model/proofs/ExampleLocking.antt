@@ -1,4 +1,5 @@
 -- A hart takes a lock word and gives it back, puts a byte and exits.
+use Rattle.dash_model.proofs.TableCode.{sc_is_not_lr, swap_is_not_lr}
 use Rattle.std.proofs.Common.{inr, ◌≡◌, ℕ, zero, suc, ◌<◌, true, None, Some, List, [], ◌∷◌, map, refl, arith, pos}
 use Rattle.dash_base.specs.declared.topology.Topology.{Topology}
 use Rattle.dash_base.specs.declared.instr.Instr.{Instr}
@@ -26,7 +27,7 @@ use Rattle.dash_model.specs.Machine.{Machine, Step, event_of, opening, CanHappen
 use Rattle.dash_model.specs.Complete.{IsSpent, IsStopped, Ended, IsQueued, IsComplete, hart_at, IsStatus, AfterAll, SomeTrapped, DidTrap}
 use Rattle.dash_model.specs.Examples.{Example}
 use Rattle.dash_model.specs.ExampleLogs.{word_addr, access, unlabelled, acquire, release}
-use Rattle.dash_model.proofs.ExampleParts.{shape, step, plain, rises, sc_is_not_lr, swap_is_not_lr}
+use Rattle.dash_model.proofs.ExampleParts.{shape, step, plain, rises}
 use Rattle.dash_base.specs.declared.instr.Instr.TheVariants as instr
 use Rattle.dash_base.specs.declared.ops.AmoOp.TheVariants as amo
 use Rattle.dash_base.specs.declared.need.Need.TheVariants as needed

@@ -1,4 +1,5 @@
 -- Two harts of one cluster share its lines.
+use Rattle.dash_model.proofs.TableCode.{add_is_not_lr}
 use Rattle.std.proofs.Common.{inl, inr, ◌≡◌, ℕ, zero, suc, ◌<◌, ◌==◌, true, false, None, Some, List, [], ◌∷◌, map, refl, arith, pos}
 use Rattle.dash_base.specs.declared.topology.Topology.{Topology}
 use Rattle.dash_base.specs.declared.instr.Instr.{Instr}
@@ -26,7 +27,7 @@ use Rattle.dash_model.specs.Machine.{Machine, Step, event_of, opening, CanHappen
 use Rattle.dash_model.specs.Complete.{IsSpent, IsStopped, Spent, IsComplete, hart_at, IsStatus, AfterBudget, SomeTrapped, DidTrap}
 use Rattle.dash_model.specs.Examples.{Example}
 use Rattle.dash_model.specs.ExampleLogs.{word_addr, line_0, line_16, content, access, unlabelled, release}
-use Rattle.dash_model.proofs.ExampleParts.{shape, step, plain, no_release, either, not_0, not_16, rises, add_is_not_lr}
+use Rattle.dash_model.proofs.ExampleParts.{shape, step, plain, no_release, either, not_0, not_16, rises}
 use Rattle.dash_model.proofs.TableCells.{room_for_acks}
 use Rattle.dash_base.specs.declared.instr.Instr.TheVariants as instr
 use Rattle.dash_base.specs.declared.ops.AmoOp.TheVariants as amo

@@ -1,4 +1,5 @@
 -- A hart that asks twice for a lock word waits.
+use Rattle.dash_model.proofs.TableCode.{swap_is_not_lr}
 use Rattle.std.proofs.Common.{inl, ◌≡◌, ℕ, zero, suc, ◌<◌, Some, List, [], ◌∷◌, map, refl, arith}
 use Rattle.dash_base.specs.declared.topology.Topology.{Topology}
 use Rattle.dash_base.specs.declared.instr.Instr.{Instr}
@@ -24,7 +25,7 @@ use Rattle.dash_model.specs.Machine.{Machine, Step, event_of, opening, CanHappen
 use Rattle.dash_model.specs.Complete.{IsSpent, IsStopped, Waits, IsWaiting, IsComplete, hart_at, IsStatus, AfterWait, SomeTrapped, DidTrap}
 use Rattle.dash_model.specs.Examples.{Example}
 use Rattle.dash_model.specs.ExampleLogs.{word_addr, access, acquire}
-use Rattle.dash_model.proofs.ExampleParts.{shape, step, plain, rises, swap_is_not_lr}
+use Rattle.dash_model.proofs.ExampleParts.{shape, step, plain, rises}
 use Rattle.dash_base.specs.declared.instr.Instr.TheVariants as instr
 use Rattle.dash_base.specs.declared.ops.AmoOp.TheVariants as amo
 use Rattle.dash_base.specs.declared.need.Need.TheVariants as needed

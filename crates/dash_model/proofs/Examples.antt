@@ -1,5 +1,7 @@
 -- The example runs, and that every event and every message is there.
-use Rattle.std.proofs.Common.{◌≡◌, ℕ, zero, suc, ◌<◌, ◌⊎◌, inl, inr, ◌&&◌, Bool, true, false, map, refl, arith}
+use Rattle.dash_model.proofs.TableCells.{nearer}
+use Rattle.dash_model.proofs.ExampleParts.{both}
+use Rattle.std.proofs.Common.{◌≡◌, ℕ, zero, suc, ◌<◌, inl, inr, ◌&&◌, Bool, true, map, refl, arith}
 use Rattle.std.specs.Prelude.{flat_map}
 use Rattle.dash_model.specs.Maps.{member}
 use Rattle.dash_model.specs.Examples.{ExampleRuns, event_number, message_in, all_kinds}
@@ -15,17 +17,10 @@ abbrev each : (ℕ → Bool) → ℕ → Bool
 each f zero = true
 each f (suc n) = f n && each f n
 
-both : (a b : Bool) → (a && b) ≡ true → (a ≡ true) × (b ≡ true)
-both true b e = (refl, e)
-both false b e = absurd (cc)
-
-nearer : (k n : ℕ) → k < suc n → (k ≡ n) ⊎ (k < n)
-nearer k n h = grind arith
-
 at_each : (f : ℕ → Bool) (n : ℕ) → each f n ≡ true → (k : ℕ) → k < n → f k ≡ true
 at_each f zero e k h = absurd (omega arith)
 at_each f (suc n) e k h =
-    let b = both (f n) (each f n) e in elim (nearer k n h) [ inl m ↦ rw m b.0 | inr l ↦ at_each f n b.1 k l ]
+    let b = both (f n) (each f n) e in elim (nearer k n h) [ inl l ↦ at_each f n b.1 k l | inr m ↦ rw m b.0 ]
 
 pub example_runs : ExampleRuns
 unfolding member

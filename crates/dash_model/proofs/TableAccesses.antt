@@ -1,5 +1,5 @@
 -- The rows of the table for the instructions that access memory.
-use Rattle.std.proofs.Common.{◌≡◌, ◌∙◌, ℕ, ◌==◌, Bool, true, false, Option, None, Some, List, [], ◌∷◌, refl, ap, subst, arith}
+use Rattle.std.proofs.Common.{◌≡◌, ◌∙◌, ℕ, ◌==◌, Bool, true, false, None, Some, List, [], ◌∷◌, refl, ap, subst, arith}
 use Rattle.dash_base.specs.Words.{merged}
 use Rattle.dash_base.specs.declared.id.WordAddr.{WordAddr}
 use Rattle.dash_base.specs.declared.instr.Labels.{Labels}
@@ -28,26 +28,15 @@ use Rattle.dash_model.specs.TableCode as word
 use Rattle.dash_model.specs.TableCode.{plain, release, half, far_away}
 use Rattle.dash_model.specs.TableAccesses.{RowsOfLoad, RowsOfStore, RowsOfCommit, RowsOfRmw, RowsOfScFail, RowsOfAccesses}
 use Rattle.dash_model.proofs.TableCode as code
-use Rattle.dash_model.proofs.TableCode.{doing, need_of, need_known}
+use Rattle.dash_model.proofs.TableCode.{doing, need_of, need_known, read_of, written_of, apart}
 use Rattle.dash_model.proofs.TableCells.{chosen}
 
 -- what an access reads and writes
-abbrev read_of : Option Access → Option ℕ
-read_of None = None
-read_of (Some a) = a.read
-
-abbrev written_of : Option Access → Option ℕ
-written_of None = None
-written_of (Some a) = a.written
-
 reads_as : (a : Access) (h number old : ℕ) (b : Bool) (need known : Need) → need ≡ known → Some (unseen a) ≡ offered h number need old b → a.read ≡ read_of (offered h number known old b)
 reads_as a h number old b need known e made = ap read_of (made ∙ ap (λ n. offered h number n old b) e)
 
 writes_as : (a : Access) (h number old : ℕ) (b : Bool) (need known : Need) → need ≡ known → Some (unseen a) ≡ offered h number need old b → a.written ≡ written_of (offered h number known old b)
 writes_as a h number old b need known e made = ap written_of (made ∙ ap (λ n. offered h number n old b) e)
-
-apart : (a b : ℕ) → Some a ≡ Some b → (a ≡ b → ⊥) → ⊥
-apart a b e n = let m : a ≡ b = cc in n m
 
 one_version : (a b : ℕ) → seen.Line a ≡ seen.Line b → a ≡ b
 one_version a b e = cc

@@ -57,7 +57,7 @@ nothing_pending false false false x y z p q r = refl
 pub room_for_acks : (f : ℕ → ℕ) (n : ℕ) → ((l : ℕ) → f l ≡ 0) → total f n < 1
 room_for_acks f n h = let e = zeros f h n in omega arith
 
-nearer : (k n : ℕ) → k < suc n → (k < n) ⊎ (k ≡ n)
+pub nearer : (k n : ℕ) → k < suc n → (k < n) ⊎ (k ≡ n)
 nearer k n h = grind arith
 
 one_of_total : (f : ℕ → ℕ) (n k : ℕ) → k < n → f k ≤ total f n

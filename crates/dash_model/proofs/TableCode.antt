@@ -1,5 +1,6 @@
 -- The instructions of the equations of the table: what each needs, and what it makes of hart 2.
-use Rattle.std.proofs.Common.{◌≡◌, ◌∙◌, ℕ, true, false, refl, sym, arith, pos}
+use Rattle.dash_event.specs.declared.access.Access.{Access}
+use Rattle.std.proofs.Common.{◌≡◌, ◌∙◌, ℕ, true, false, refl, sym, arith, pos, Option, None, Some}
 use Rattle.dash_base.specs.declared.end.End.TheVariants.{Exited, Trapped}
 use Rattle.dash_base.specs.declared.end.Trap.TheVariants.{Break}
 use Rattle.dash_base.specs.declared.instr.Instr.{Instr}
@@ -39,6 +40,7 @@ putting = record { need = needed.Put 65; next = after_need (hart_with 1) (This i
 pub need_of : {w : Config} {c h answer : ℕ} {wanted need : Need} {d : HartEffect} {p : Part} → Retires w c h wanted answer d p → Needs w.image w.top (p.harts h).core need → wanted ≡ need
 need_of r n = sym r.need_is ∙ one_need _ _ _ _ _ (needs_of _ _ _ _ _ _ r.does) n
 
+-- only LR has no source
 pub sc_is_not_lr : amo.Sc ≡ amo.Lr → ⊥
 sc_is_not_lr e = cc
 
@@ -52,6 +54,20 @@ swap_is_not_lr e = cc
 pub need_known : {w : Config} {c h answer : ℕ} {wanted need : Need} {d : HartEffect} {p : Part} → Retires w c h wanted answer d p → Needs w.image w.top (p.harts h).core need → d.need ≡ need
 need_known r n = one_need _ _ _ _ _ (needs_of _ _ _ _ _ _ r.does) n
 
+-- fields of an access
+abbrev pub read_of : Option Access → Option ℕ
+read_of None = None
+read_of (Some a) = a.read
+
+abbrev pub written_of : Option Access → Option ℕ
+written_of None = None
+written_of (Some a) = a.written
+
+-- two values that are not one
+pub apart : (a b : ℕ) → Some a ≡ Some b → (a ≡ b → ⊥) → ⊥
+apart a b e n = let m : a ≡ b = cc in n m
+
+-- the instructions: of each, that its word is found, what it needs, and what it makes of hart 2
 abbrev pub addi : Instr
 addi = instr.OpImm (record { op = Add; rd = 28; rs1 = 7; imm = pos 1; rd_in_range = omega arith; rs1_in_range = omega arith; imm_in_range = record { low = omega arith; high = omega arith }; has_form = refl })
 
@@ -88,10 +104,6 @@ fence_reads = instr.Fence (record { fm = 0; pred = 2; succ = 2; rd = 0; rs1 = 0;
 found_fence_reads : IsFound (config_of code.fence_reads).image 4096 (This fence_reads)
 unfolding fetched word_among byte_among
 found_fence_reads = refl
-
-pub needs_fence_reads : Needs (config_of code.fence_reads).image small (hart_with 93) (needed.Fence false)
-unfolding is_writable
-needs_fence_reads = record { goes = refl; found = This fence_reads; is_found = found_fence_reads; needs = refl }
 
 pub does_fence_reads : (answer : ℕ) → Does (config_of code.fence_reads).image small (hart_with 93) (needed.Fence false) answer (after_need (hart_with 93) (This fence_reads) (needed.Fence false) answer)
 unfolding is_writable
@@ -179,10 +191,6 @@ found_ebreak : IsFound (config_of code.ebreak).image 4096 (This ebreak)
 unfolding fetched word_among byte_among
 found_ebreak = refl
 
-pub needs_ebreak : Needs (config_of code.ebreak).image small (hart_with 93) (needed.Stop (Trapped Break 0))
-unfolding is_writable
-needs_ebreak = record { goes = refl; found = This ebreak; is_found = found_ebreak; needs = refl }
-
 pub does_ebreak : (answer : ℕ) → Does (config_of code.ebreak).image small (hart_with 93) (needed.Stop (Trapped Break 0)) answer (after_need (hart_with 93) (This ebreak) (needed.Stop (Trapped Break 0)) answer)
 unfolding is_writable
 does_ebreak answer = record { goes = refl; found = This ebreak; is_found = found_ebreak; needs = refl; after = refl }
@@ -212,10 +220,6 @@ found_lw_other = refl
 pub needs_lw_other : Needs (config_of code.lw_other).image small (hart_with 93) (needed.Load (at 352) 15 plain false)
 unfolding is_writable
 needs_lw_other = record { goes = refl; found = This lw_other; is_found = found_lw_other; needs = refl }
-
-pub does_lw_other : (answer : ℕ) → Does (config_of code.lw_other).image small (hart_with 93) (needed.Load (at 352) 15 plain false) answer (after_need (hart_with 93) (This lw_other) (needed.Load (at 352) 15 plain false) answer)
-unfolding is_writable
-does_lw_other answer = record { goes = refl; found = This lw_other; is_found = found_lw_other; needs = refl; after = refl }
 
 abbrev pub sw : Instr
 sw = instr.Store (record { op = Sw; rs1 = 0; rs2 = 7; offset = pos 100; rs1_in_range = omega arith; rs2_in_range = omega arith; offset_in_range = record { low = omega arith; high = omega arith } })

@@ -1,5 +1,6 @@
 -- The rows of the table for what a cluster does to a line by itself.
-use Rattle.std.proofs.Common.{◌≡◌, ◌⊎◌, inl, inr, ℕ, ◌==◌, Bool, true, false, Some, refl, subst, arith}
+use Rattle.dash_model.proofs.TableCode.{apart}
+use Rattle.std.proofs.Common.{◌≡◌, ◌⊎◌, inl, inr, ℕ, ◌==◌, Bool, true, false, refl, subst, arith}
 use Rattle.dash_base.specs.declared.ops.AmoOp.TheVariants as amo
 use Rattle.hart_core.specs.Meaning.{Needs}
 use Rattle.dash_base.specs.declared.need.Need.{Need}
@@ -26,9 +27,6 @@ loads_of {w = w} {h = h} {l = l} {p = p} g n = subst (λ x. LoadsFrom w l (p.har
 
 writes_of : {w : Config} {h l : ℕ} {p : Part} {need : Need} → FrontNeed w h l p → Needs w.image w.top (p.harts h).core need → WritesTo w l (p.harts h) need
 writes_of {w = w} {h = h} {l = l} {p = p} g n = subst (λ x. WritesTo w l (p.harts h) x) (one_need _ _ _ _ _ g.needs n) g.writes
-
-apart : (a b : ℕ) → Some a ≡ Some b → (a ≡ b → ⊥) → ⊥
-apart a b e n = let m : a ≡ b = cc in n m
 
 bus_read : RowsOfBusRead
 unfolding row Guard newest_of member with_member

@@ -10,23 +10,12 @@ use Rattle.dash_model.specs.Guard.{Guard}
 use Rattle.dash_model.specs.TableParts.{at}
 use Rattle.dash_model.specs.TableLocks.{first, second, RowsOfGrant, RowsOfFree, RowsOfLockAsk, RowsOfUnlock, RowsOfLockAnswers, RowsOfLocks}
 use Rattle.dash_model.proofs.TableCode as code
-use Rattle.dash_model.proofs.TableCode.{doing}
+use Rattle.dash_model.proofs.TableCode.{doing, read_of, written_of, apart}
 
 -- fields of an access
 abbrev hart_of : Option Access → ℕ
 hart_of None = 0
 hart_of (Some a) = a.hart.0
-
-abbrev written_of : Option Access → Option ℕ
-written_of None = None
-written_of (Some a) = a.written
-
-abbrev read_of : Option Access → Option ℕ
-read_of None = None
-read_of (Some a) = a.read
-
-apart : (a b : ℕ) → Some a ≡ Some b → (a ≡ b → ⊥) → ⊥
-apart a b e n = let m : a ≡ b = cc in n m
 
 one_count : (a b : ℕ) → seen.Lock a ≡ seen.Lock b → a ≡ b
 one_count a b e = cc

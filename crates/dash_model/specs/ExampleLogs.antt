@@ -20,11 +20,11 @@ use Rattle.dash_model.specs.Config.{cluster_id, line_id, hart_id}
 abbrev pub word_addr : ℕ → WordAddr
 word_addr n = record { 0 = n }
 
--- the lines of addresses 0 and 256, which have one index in L2
+-- the line of address 0
 abbrev pub line_0 : LineId
 line_0 = line_id 0
 
--- the second of them
+-- the line of address 256, which has the same index in L2
 abbrev pub line_16 : LineId
 line_16 = line_id 16
 
@@ -32,7 +32,7 @@ line_16 = line_id 16
 abbrev pub content : ℕ → ℕ → Line
 content n version = record { words = n ∷ 0 ∷ 0 ∷ 0 ∷ []; version = version }
 
--- labels of an access
+-- no label
 abbrev pub unlabelled : Labels
 unlabelled = record { aq = false; rl = false }
 

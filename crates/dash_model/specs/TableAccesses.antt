@@ -14,11 +14,11 @@ use Rattle.dash_model.specs.TableParts.{Scene, empty, Makes, May, Never, at, new
 use Rattle.dash_model.specs.TableCode.{access, addi, lw, sw, lr, sc, amoadd, amoadd_rl, loads, reserves, stores, adds, swaps, fails, plain, release, half, whole, far_away}
 use Rattle.dash_model.specs.TableHarts.{owing, owing_beside}
 
--- hart 2 is a holder of line 6, or its owner, and its instruction is this
+-- hart 2 is the only holder of line 6, which has no owner, and its instruction is this
 abbrev pub holding : ℕ → Scene
 holding word = record (calm word) { copy = Held (2 ∷ []) None new }
 
--- the owner and only holder
+-- hart 2 is its owner too
 abbrev pub owning : ℕ → Scene
 owning word = record (calm word) { copy = Held (2 ∷ []) (Some 2) new }
 
@@ -80,7 +80,7 @@ ready = waiting (half ∷ far_away ∷ []) (owning addi)
 abbrev pub committed : Line
 committed = record { words = 1 ∷ 9 ∷ 3 ∷ 4 ∷ []; version = 8 }
 
--- afterwards
+-- the scene afterwards
 abbrev pub done : Scene
 done = with_line committed (record ready { buffer = far_away ∷ [] })
 

@@ -84,7 +84,7 @@ lock = 0x0c732e2f
 abbrev pub unlock : ℕ
 unlock = 0x0a03202f
 
--- labels of an access
+-- no label
 abbrev pub plain : Labels
 plain = record { aq = false; rl = false }
 
@@ -122,14 +122,14 @@ swaps = kind.Rmw (access op.Cond plain None (Some 7) (seen.Line 7)) line 8
 abbrev pub fails : Kind
 fails = kind.ScFail (access op.Cond plain None None seen.Nothing)
 
--- stores that wait in hart 2's buffer: to half of the word at address 100, to all of it, and to a word of line 0
+-- a store that waits in hart 2's buffer: to the lower half of the word at address 100
 abbrev pub half : Stored
 half = record { number = 1; word = at 100; mask = 3; value = 9 }
 
--- to the whole word
+-- one to the whole word
 abbrev pub whole : Stored
 whole = record { number = 2; word = at 100; mask = 15; value = 9 }
 
--- to the word at address 8
+-- one to the word at address 8, of line 0
 abbrev pub far_away : Stored
 far_away = record { number = 3; word = at 8; mask = 15; value = 9 }

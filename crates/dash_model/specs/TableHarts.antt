@@ -17,7 +17,7 @@ use Rattle.dash_model.specs.Machine.{Machine, Step, after}
 use Rattle.dash_model.specs.TableParts.{Scene, empty, outcome, Makes, May, Never, at, new, hart_with, calm, config_of, Becomes, line}
 use Rattle.dash_model.specs.TableCode.{addi, fence_writes, fence_reads, prefetch_i, prefetch_r, prefetch_w, prefetch_outside, ecall, ebreak, lw, lock, unlock, half}
 
--- an addition
+-- an addition retires
 abbrev pub alu_event : ℕ → Kind
 alu_event pc = kind.Alu (hart_id 2) pc
 
@@ -31,15 +31,15 @@ pub record RowsOfAlu : Type 0 where
   pub never_after_the_end : Never 1 (alu_event 4096) (record (calm addi) { core = record (hart_with 93) { end = Exited 0 } })
   pub never_past_the_budget : Never 1 (alu_event 4096) (record (calm addi) { core = record (hart_with 93) { retired = 9 } })
 
--- a fence
+-- a fence retires
 abbrev pub fence_event : Kind
 fence_event = kind.Fence (hart_id 2) 4096
 
--- line 22 is pending, and its acknowledgements are owed to hart 2; line 6 is, to hart 3 alone
+-- line 22 is pending, and its acknowledgements are owed to hart 2
 abbrev pub owing : Scene → Scene
 owing s = record s { other = record empty { acks = Counting 0 (2 ∷ []) } }
 
--- owed to the hart beside
+-- they are owed to hart 3 alone
 abbrev pub owing_beside : Scene → Scene
 owing_beside s = record s { other = record empty { acks = Counting 0 (3 ∷ []) } }
 
@@ -53,7 +53,7 @@ pub record RowsOfFence : Type 0 where
   pub one_that_passes_needs_neither : May 1 fence_event (owing (record (calm fence_reads) { buffer = half ∷ [] }))
   pub never_of_an_addition : Never 1 fence_event (calm addi)
 
--- a prefetch, by a slot or by none
+-- a prefetch that opens slot 4, which is the only prefetch slot
 abbrev pub with_slot_4 : Kind
 with_slot_4 = kind.Hint (hart_id 2) 4096 (Some 4)
 

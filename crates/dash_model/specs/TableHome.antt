@@ -19,7 +19,7 @@ from f m = kind.Take (cluster_id f) m
 abbrev pub entered : Entry → Scene
 entered entry = record (calm addi) { home = home_with entry }
 
--- with the newer content in its memory
+-- the same with the newer content in memory
 abbrev pub stored : Entry → Scene
 stored entry = record (calm addi) { home = record { mem = new; entry = entry } }
 
@@ -27,7 +27,7 @@ stored entry = record (calm addi) { home = record { mem = new; entry = entry } }
 abbrev pub asks : Kind
 asks = from 1 (Read line)
 
--- to own
+-- it asks to own
 abbrev pub asks_to_own : Kind
 asks_to_own = from 1 (ReadEx line)
 

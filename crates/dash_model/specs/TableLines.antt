@@ -104,11 +104,11 @@ pub record RowsOfEvict : Type 0 where
   pub a_holder_leaves_the_owner : Makes 1 evicts (wanting (record (calm addi) { copy = Held (2 ∷ 3 ∷ []) (Some 3) new })) (wanting (beside_an_owner addi)) []
   pub the_last_holder_leaves_no_copy : Makes 1 evicts (wanting (holding addi)) (wanting (calm addi)) []
 
--- slot n asks for line 6, for hart 2
+-- slot n asks to read line 6, for hart 2
 abbrev pub asks_to_read : ℕ → Kind
 asks_to_read n = kind.Ask n (hart_id 2) line false
 
--- to own
+-- it asks to own
 abbrev pub asks_to_own : ℕ → Kind
 asks_to_own n = kind.Ask n (hart_id 2) line true
 
@@ -154,11 +154,11 @@ pub record RowsOfAgain : Type 0 where
 abbrev pub installs : Kind
 installs = kind.Install 0 (hart_id 2) line
 
--- what came to read, and to own
+-- the line came to slot 0, to read
 abbrev pub came : Scene
 came = record (calm lw) { slot = Reads 0 2 (Came new) }
 
--- to own, while acknowledgements are to come
+-- it came to own, while acknowledgements are to come
 abbrev pub came_to_own : Scene
 came_to_own = record (calm lw) { slot = Owns 0 2 (Came new); acks = Expects 2 1 [] }
 

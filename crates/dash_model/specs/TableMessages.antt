@@ -20,11 +20,11 @@ owned = both_reserved (record (calm addi) { copy = Held (2 ∷ 3 ∷ []) (Some 2
 abbrev pub shared : Scene
 shared = both_reserved (record (calm addi) { copy = Held (2 ∷ 3 ∷ []) None new })
 
--- a request of cluster r is passed on to cluster 1: to read, and to own
+-- a request of cluster r to read is passed on
 abbrev pub forwards : ℕ → Kind
 forwards r = from 2 (FwdRead line (cluster_id r))
 
--- to own
+-- one to own
 abbrev pub forwards_to_own : ℕ → Kind
 forwards_to_own r = from 2 (FwdReadEx line (cluster_id r))
 
@@ -32,31 +32,31 @@ forwards_to_own r = from 2 (FwdReadEx line (cluster_id r))
 abbrev pub invalidates : ℕ → Kind
 invalidates r = from 2 (Inval line (cluster_id r))
 
--- the answers to a request: a copy; the line to own, with so many acknowledgements to come; and that it is refused
+-- the answer to a request: a copy
 abbrev pub answers : Kind
 answers = from 2 (Data line old)
 
--- the line to own
+-- the line to own, with so many acknowledgements to come
 abbrev pub gives : ℕ → Kind
 gives n = from 2 (DataEx line old n)
 
--- refused
+-- or that it is refused
 abbrev pub refuses : Kind
 refuses = from 2 (Nak line)
 
--- acknowledgements: of an invalidation by cluster 3, and of a transfer by the home
+-- cluster 3 acknowledges an invalidation
 abbrev pub acknowledges : Kind
 acknowledges = from 3 (Ack line)
 
--- by the home
+-- the home acknowledges a transfer
 abbrev pub confirms : Kind
 confirms = from 2 (TransferAck line)
 
--- what is told to cluster 3
+-- cluster 3 is told that its request is refused
 abbrev pub nak_to_3 : List Sent
 nak_to_3 = to 3 (Nak line) ∷ []
 
--- that the copies are gone
+-- or that the copies are gone
 abbrev pub ack_to_3 : List Sent
 ack_to_3 = to 3 (Ack line) ∷ []
 
