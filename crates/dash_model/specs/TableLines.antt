@@ -50,7 +50,7 @@ owns = kind.BusOwn (hart_id 2) line
 
 -- hart 2 beside the owner, hart 3, both of whom have line 6 in L1 and the word at 104 of it reserved
 abbrev pub both_reserved : Scene → Scene
-both_reserved s = record s { reserved = Some 104; l1 = Some 6; reserved_beside = Some 104; near_beside = Some 6 }
+both_reserved s = record s { reserved = Some 104; l1 = Some 6; reserved_beside = Some 104; l1_beside = Some 6 }
 
 -- hart 2 alone has them
 abbrev pub one_reserved : Scene → Scene
@@ -100,7 +100,7 @@ pub record RowsOfEvict : Type 0 where
   pub never_for_the_line_itself : Never 1 evicts (record (holding addi) { slot = Owns 0 2 (Came old) })
   pub never_at_another_cluster : Never 2 evicts (wanting (holding addi))
   pub the_owner_leaves_no_copy_and_writes_back : Makes 1 evicts (both_reserved (wanting owning_beside)) (wanting (calm addi)) (to 2 (WriteBack line new) ∷ [])
-  pub a_holder_leaves_the_others : Makes 1 evicts (both_reserved (wanting (record (calm addi) { copy = Held (2 ∷ 3 ∷ []) None new }))) (record (wanting (beside_a_holder addi)) { reserved_beside = Some 104; near_beside = Some 6 }) []
+  pub a_holder_leaves_the_others : Makes 1 evicts (both_reserved (wanting (record (calm addi) { copy = Held (2 ∷ 3 ∷ []) None new }))) (record (wanting (beside_a_holder addi)) { reserved_beside = Some 104; l1_beside = Some 6 }) []
   pub a_holder_leaves_the_owner : Makes 1 evicts (wanting (record (calm addi) { copy = Held (2 ∷ 3 ∷ []) (Some 3) new })) (wanting (beside_an_owner addi)) []
   pub the_last_holder_leaves_no_copy : Makes 1 evicts (wanting (holding addi)) (wanting (calm addi)) []
 

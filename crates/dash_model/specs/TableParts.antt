@@ -73,7 +73,7 @@ pub record Scene : Type 0 where
   pub asked : Bool
   pub l1 : Option ℕ
   pub reserved_beside : Option ℕ
-  pub near_beside : Option ℕ
+  pub l1_beside : Option ℕ
   pub copy : Copy
   pub slot : Slot
   pub acks : Acks
@@ -89,7 +89,7 @@ empty = record { copy = NoCopy; slot = NoSlot; acks = NoAcks }
 -- a part with just that
 abbrev pub part_of : Scene → Part
 part_of s = record {
-  harts = λ h. cond (h == 2) (record { core = s.core; reserved = s.reserved; buffer = s.buffer; asked = s.asked; l1 = λ i. s.l1 }) (record { core = s.core; reserved = s.reserved_beside; buffer = []; asked = false; l1 = λ i. s.near_beside });
+  harts = λ h. cond (h == 2) (record { core = s.core; reserved = s.reserved; buffer = s.buffer; asked = s.asked; l1 = λ i. s.l1 }) (record { core = s.core; reserved = s.reserved_beside; buffer = []; asked = false; l1 = λ i. s.l1_beside });
   cells = λ l. cond (l == 6) (record { copy = s.copy; slot = s.slot; acks = s.acks }) (cond (l == 22) s.other (cond (l == 7) s.apart empty));
   homes = λ l. s.home;
   locks = λ i. s.lock;
@@ -106,7 +106,7 @@ scene_in word p = record {
   asked = (p.harts 2).asked;
   l1 = (p.harts 2).l1 0;
   reserved_beside = (p.harts 3).reserved;
-  near_beside = (p.harts 3).l1 0;
+  l1_beside = (p.harts 3).l1 0;
   copy = (p.cells 6).copy;
   slot = (p.cells 6).slot;
   acks = (p.cells 6).acks;
@@ -187,7 +187,7 @@ calm word = record {
   asked = false;
   l1 = None;
   reserved_beside = None;
-  near_beside = None;
+  l1_beside = None;
   copy = NoCopy;
   slot = NoSlot;
   acks = NoAcks;

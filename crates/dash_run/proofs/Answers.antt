@@ -1,4 +1,4 @@
--- What is owed for a file, from what the loader and the run say of it.
+-- The output for a file, from what the loader and the run say of it.
 use Rattle.std.proofs.Common.{◌≡◌, ℕ, inr, List, None, refl, subst}
 use Rattle.dash_base.specs.Topology.{IsSimple, simple_refusal}
 use Rattle.dash_base.specs.declared.topology.Topology.{Topology}
@@ -13,8 +13,8 @@ use Rattle.dash_run.specs.declared.output.Output.TheVariants.{Usage, Line, Repor
 use Rattle.dash_run.specs.CommandLine.{Request}
 use Rattle.dash_run.specs.Output.{IsAnswer, IsAnswerOn, IsReport}
 
-pub report_on : (bytes : List ℕ) (image : ImageView) (t : Topology) (m : MemoryMap) (owed : Output)
-    → m.base ≡ t.base → m.size ≡ t.memory → IsLoadable bytes m → image ≡ image_of bytes → IsReport image t owed → IsAnswerOn t bytes owed
+pub report_on : (bytes : List ℕ) (image : ImageView) (t : Topology) (m : MemoryMap) (output : Output)
+    → m.base ≡ t.base → m.size ≡ t.memory → IsLoadable bytes m → image ≡ image_of bytes → IsReport image t output → IsAnswerOn t bytes output
 report_on bytes image t m Usage base size accepted same report = report
 report_on bytes image t m (Line status text) base size accepted same report = absurd report
 report_on bytes image t m (Report status console harts accesses log) base size accepted same report = record {
@@ -30,9 +30,9 @@ pub refusal_applies : (bytes : List ℕ) (map : MemoryMap) (refusal : LoadRefusa
 refusal_applies bytes map load_refusal.OutOfMemory other refuses = absurd (other refl)
 refusal_applies bytes map refusal other refuses = refuses
 
--- what is owed on a topology that was asked for is what is owed
-pub answer_on_asked : (q : Request) (t : Topology) (bytes : List ℕ) (owed : Output)
-    → IsSimple q.clusters q.harts q.budget t → simple_refusal q.clusters q.harts q.budget ≡ None → IsAnswerOn t bytes owed → IsAnswer q bytes owed
+-- the output on a topology that was asked for is the output
+pub answer_on_asked : (q : Request) (t : Topology) (bytes : List ℕ) (output : Output)
+    → IsSimple q.clusters q.harts q.budget t → simple_refusal q.clusters q.harts q.budget ≡ None → IsAnswerOn t bytes output → IsAnswer q bytes output
 answer_on_asked q t bytes Usage simple accepted answer = answer
 answer_on_asked q t bytes (Line status text) simple accepted answer = inr (record {
   refusal = answer.refusal;

@@ -35,92 +35,92 @@ other_status status other (inr (inr (inr twelve))) same not0 not10 not11 not12 =
 pub no_run : (status : ℕ) → (status ≡ 2) ⊎ (status ≡ 3) ⊎ (status ≡ 4) ⊎ (status ≡ 5) ⊎ (status ≡ 6) → IsRunStatus status → ⊥
 no_run status other run = omega arith
 
--- ---- what is owed with a status
+-- ---- the output with a status
 
-pub owes_two : (words : List (List ℕ)) (files : Option Files) (before after status : ℕ) (to : Stream) (texts : List (List ℕ)) (log : List Event)
+pub output_two : (words : List (List ℕ)) (files : Option Files) (before after status : ℕ) (to : Stream) (texts : List (List ℕ)) (log : List Event)
     → IsOutput words files before after status to texts log → status ≡ 2 → IsUsageError words
-owes_two words files before after status to texts log (usage none same) eq = none
-owes_two words files before after status to texts log (failed q asks rose) eq = absurd (omega arith)
-owes_two words files before after status to texts log (large q size asks is same) eq = absurd (omega arith)
-owes_two words files before after status to texts log (bad_topology q bytes refusal asks given is same) eq = absurd (omega arith)
-owes_two words files before after status to texts log (refused q bytes refusal asks given is same) eq = absurd (omega arith)
-owes_two words files before after status to texts log (reported q bytes s t l asks given is same) eq = absurd (other_status s 2 (reported_status q bytes s t l is) eq (λ e. omega arith) (λ e. omega arith) (λ e. omega arith) (λ e. omega arith))
+output_two words files before after status to texts log (usage none same) eq = none
+output_two words files before after status to texts log (failed q asks rose) eq = absurd (omega arith)
+output_two words files before after status to texts log (large q size asks is same) eq = absurd (omega arith)
+output_two words files before after status to texts log (bad_topology q bytes refusal asks given is same) eq = absurd (omega arith)
+output_two words files before after status to texts log (refused q bytes refusal asks given is same) eq = absurd (omega arith)
+output_two words files before after status to texts log (reported q bytes s t l asks given is same) eq = absurd (other_status s 2 (reported_status q bytes s t l is) eq (λ e. omega arith) (λ e. omega arith) (λ e. omega arith) (λ e. omega arith))
 
-pub owes_three : (words : List (List ℕ)) (files : Option Files) (before after status : ℕ) (to : Stream) (texts : List (List ℕ)) (log : List Event)
+pub output_three : (words : List (List ℕ)) (files : Option Files) (before after status : ℕ) (to : Stream) (texts : List (List ℕ)) (log : List Event)
     → IsOutput words files before after status to texts log → status ≡ 3 → NamesRefused words files
-owes_three words files before after status to texts log (usage none same) eq = absurd (omega arith)
-owes_three words files before after status to texts log (failed q asks rose) eq = absurd (omega arith)
-owes_three words files before after status to texts log (large q size asks is same) eq = absurd (omega arith)
-owes_three words files before after status to texts log (bad_topology q bytes refusal asks given is same) eq = absurd (omega arith)
-owes_three words files before after status to texts log (refused q bytes refusal asks given is same) eq = record { request = q; asked = asks; bytes = bytes; given = given; refusal = refusal; refused = is }
-owes_three words files before after status to texts log (reported q bytes s t l asks given is same) eq = absurd (other_status s 3 (reported_status q bytes s t l is) eq (λ e. omega arith) (λ e. omega arith) (λ e. omega arith) (λ e. omega arith))
+output_three words files before after status to texts log (usage none same) eq = absurd (omega arith)
+output_three words files before after status to texts log (failed q asks rose) eq = absurd (omega arith)
+output_three words files before after status to texts log (large q size asks is same) eq = absurd (omega arith)
+output_three words files before after status to texts log (bad_topology q bytes refusal asks given is same) eq = absurd (omega arith)
+output_three words files before after status to texts log (refused q bytes refusal asks given is same) eq = record { request = q; asked = asks; bytes = bytes; given = given; refusal = refusal; refused = is }
+output_three words files before after status to texts log (reported q bytes s t l asks given is same) eq = absurd (other_status s 3 (reported_status q bytes s t l is) eq (λ e. omega arith) (λ e. omega arith) (λ e. omega arith) (λ e. omega arith))
 
-pub owes_four : (words : List (List ℕ)) (files : Option Files) (before after status : ℕ) (to : Stream) (texts : List (List ℕ)) (log : List Event)
+pub output_four : (words : List (List ℕ)) (files : Option Files) (before after status : ℕ) (to : Stream) (texts : List (List ℕ)) (log : List Event)
     → IsOutput words files before after status to texts log → status ≡ 4 → NamesBadTopology words files
-owes_four words files before after status to texts log (usage none same) eq = absurd (omega arith)
-owes_four words files before after status to texts log (failed q asks rose) eq = absurd (omega arith)
-owes_four words files before after status to texts log (large q size asks is same) eq = absurd (omega arith)
-owes_four words files before after status to texts log (bad_topology q bytes refusal asks given is same) eq = record { request = q; asked = asks; bytes = bytes; given = given; refusal = refusal; refused = is }
-owes_four words files before after status to texts log (refused q bytes refusal asks given is same) eq = absurd (omega arith)
-owes_four words files before after status to texts log (reported q bytes s t l asks given is same) eq = absurd (other_status s 4 (reported_status q bytes s t l is) eq (λ e. omega arith) (λ e. omega arith) (λ e. omega arith) (λ e. omega arith))
+output_four words files before after status to texts log (usage none same) eq = absurd (omega arith)
+output_four words files before after status to texts log (failed q asks rose) eq = absurd (omega arith)
+output_four words files before after status to texts log (large q size asks is same) eq = absurd (omega arith)
+output_four words files before after status to texts log (bad_topology q bytes refusal asks given is same) eq = record { request = q; asked = asks; bytes = bytes; given = given; refusal = refusal; refused = is }
+output_four words files before after status to texts log (refused q bytes refusal asks given is same) eq = absurd (omega arith)
+output_four words files before after status to texts log (reported q bytes s t l asks given is same) eq = absurd (other_status s 4 (reported_status q bytes s t l is) eq (λ e. omega arith) (λ e. omega arith) (λ e. omega arith) (λ e. omega arith))
 
-pub owes_five : (words : List (List ℕ)) (files : Option Files) (loads prints : Change ℕ) (status : ℕ) (to : Stream) (texts : List (List ℕ)) (log : List Event)
+pub output_five : (words : List (List ℕ)) (files : Option Files) (loads prints : Change ℕ) (status : ℕ) (to : Stream) (texts : List (List ℕ)) (log : List Event)
     → IsOutput words files loads.old loads.new status to texts log → status ≡ 5 → IsFault words files loads prints
-owes_five words files loads prints status to texts log (usage none same) eq = absurd (omega arith)
-owes_five words files loads prints status to texts log (failed q asks rose) eq = inl rose
-owes_five words files loads prints status to texts log (large q size asks is same) eq = inr (inr (record { request = q; asked = asks; size = size; large = is }))
-owes_five words files loads prints status to texts log (bad_topology q bytes refusal asks given is same) eq = absurd (omega arith)
-owes_five words files loads prints status to texts log (refused q bytes refusal asks given is same) eq = absurd (omega arith)
-owes_five words files loads prints status to texts log (reported q bytes s t l asks given is same) eq = absurd (other_status s 5 (reported_status q bytes s t l is) eq (λ e. omega arith) (λ e. omega arith) (λ e. omega arith) (λ e. omega arith))
+output_five words files loads prints status to texts log (usage none same) eq = absurd (omega arith)
+output_five words files loads prints status to texts log (failed q asks rose) eq = inl rose
+output_five words files loads prints status to texts log (large q size asks is same) eq = inr (inr (record { request = q; asked = asks; size = size; large = is }))
+output_five words files loads prints status to texts log (bad_topology q bytes refusal asks given is same) eq = absurd (omega arith)
+output_five words files loads prints status to texts log (refused q bytes refusal asks given is same) eq = absurd (omega arith)
+output_five words files loads prints status to texts log (reported q bytes s t l asks given is same) eq = absurd (other_status s 5 (reported_status q bytes s t l is) eq (λ e. omega arith) (λ e. omega arith) (λ e. omega arith) (λ e. omega arith))
 
-pub owes_six : (words : List (List ℕ)) (files : Option Files) (before after status : ℕ) (to : Stream) (texts : List (List ℕ)) (log : List Event)
+pub output_six : (words : List (List ℕ)) (files : Option Files) (before after status : ℕ) (to : Stream) (texts : List (List ℕ)) (log : List Event)
     → IsOutput words files before after status to texts log → status ≡ 6 → ⊥
-owes_six words files before after status to texts log (usage none same) eq = omega arith
-owes_six words files before after status to texts log (failed q asks rose) eq = omega arith
-owes_six words files before after status to texts log (large q size asks is same) eq = omega arith
-owes_six words files before after status to texts log (bad_topology q bytes refusal asks given is same) eq = omega arith
-owes_six words files before after status to texts log (refused q bytes refusal asks given is same) eq = omega arith
-owes_six words files before after status to texts log (reported q bytes s t l asks given is same) eq = (other_status s 6 (reported_status q bytes s t l is) eq (λ e. omega arith) (λ e. omega arith) (λ e. omega arith) (λ e. omega arith))
+output_six words files before after status to texts log (usage none same) eq = omega arith
+output_six words files before after status to texts log (failed q asks rose) eq = omega arith
+output_six words files before after status to texts log (large q size asks is same) eq = omega arith
+output_six words files before after status to texts log (bad_topology q bytes refusal asks given is same) eq = omega arith
+output_six words files before after status to texts log (refused q bytes refusal asks given is same) eq = omega arith
+output_six words files before after status to texts log (reported q bytes s t l asks given is same) eq = (other_status s 6 (reported_status q bytes s t l is) eq (λ e. omega arith) (λ e. omega arith) (λ e. omega arith) (λ e. omega arith))
 
-pub owes_run : (words : List (List ℕ)) (files : Option Files) (before after status : ℕ) (to : Stream) (texts : List (List ℕ)) (log : List Event)
+pub output_run : (words : List (List ℕ)) (files : Option Files) (before after status : ℕ) (to : Stream) (texts : List (List ℕ)) (log : List Event)
     → IsOutput words files before after status to texts log → IsRunStatus status → NamesRun words files status log
-owes_run words files before after status to texts log (usage none same) run = absurd (no_run _ (inl refl) run)
-owes_run words files before after status to texts log (failed q asks rose) run = absurd (no_run _ (inr (inr (inr (inl refl)))) run)
-owes_run words files before after status to texts log (large q size asks is same) run = absurd (no_run _ (inr (inr (inr (inl refl)))) run)
-owes_run words files before after status to texts log (bad_topology q bytes refusal asks given is same) run = absurd (no_run _ (inr (inr (inl refl))) run)
-owes_run words files before after status to texts log (refused q bytes refusal asks given is same) run = absurd (no_run _ (inr (inl refl)) run)
-owes_run words files before after status to texts log (reported q bytes s t l asks given is same) run = record { request = q; asked = asks; bytes = bytes; given = given; texts = t; reported = is }
+output_run words files before after status to texts log (usage none same) run = absurd (no_run _ (inl refl) run)
+output_run words files before after status to texts log (failed q asks rose) run = absurd (no_run _ (inr (inr (inr (inl refl)))) run)
+output_run words files before after status to texts log (large q size asks is same) run = absurd (no_run _ (inr (inr (inr (inl refl)))) run)
+output_run words files before after status to texts log (bad_topology q bytes refusal asks given is same) run = absurd (no_run _ (inr (inr (inl refl))) run)
+output_run words files before after status to texts log (refused q bytes refusal asks given is same) run = absurd (no_run _ (inr (inl refl)) run)
+output_run words files before after status to texts log (reported q bytes s t l asks given is same) run = record { request = q; asked = asks; bytes = bytes; given = given; texts = t; reported = is }
 
 -- ---- the cause of each status
 
 pub usage_cause : (words : List (List ℕ)) (files : Option Files) (loads prints : Change ℕ) (printed : Change (Option Printed)) (calls : Change (Option (List Call))) (status : ℕ) (log : List Event)
     → Ends words files loads prints printed calls status log → status ≡ 2 → IsUsageError words
-usage_cause words files loads prints printed calls status log (printed_all s to texts l owes steady follows made) eq = owes_two _ _ _ _ _ _ _ _ owes eq
-usage_cause words files loads prints printed calls status log (print_failed s to texts l owes rose follows made) eq = absurd (omega arith)
+usage_cause words files loads prints printed calls status log (printed_all s to texts l is_output steady follows made) eq = output_two _ _ _ _ _ _ _ _ is_output eq
+usage_cause words files loads prints printed calls status log (print_failed s to texts l is_output rose follows made) eq = absurd (omega arith)
 usage_cause words files loads prints printed calls status log (out_of_memory q asks steady same made) eq = absurd (omega arith)
 
 pub refused_cause : (words : List (List ℕ)) (files : Option Files) (loads prints : Change ℕ) (printed : Change (Option Printed)) (calls : Change (Option (List Call))) (status : ℕ) (log : List Event)
     → Ends words files loads prints printed calls status log → status ≡ 3 → NamesRefused words files
-refused_cause words files loads prints printed calls status log (printed_all s to texts l owes steady follows made) eq = owes_three _ _ _ _ _ _ _ _ owes eq
-refused_cause words files loads prints printed calls status log (print_failed s to texts l owes rose follows made) eq = absurd (omega arith)
+refused_cause words files loads prints printed calls status log (printed_all s to texts l is_output steady follows made) eq = output_three _ _ _ _ _ _ _ _ is_output eq
+refused_cause words files loads prints printed calls status log (print_failed s to texts l is_output rose follows made) eq = absurd (omega arith)
 refused_cause words files loads prints printed calls status log (out_of_memory q asks steady same made) eq = absurd (omega arith)
 
-pub misshapen_cause : (words : List (List ℕ)) (files : Option Files) (loads prints : Change ℕ) (printed : Change (Option Printed)) (calls : Change (Option (List Call))) (status : ℕ) (log : List Event)
+pub bad_topology_cause : (words : List (List ℕ)) (files : Option Files) (loads prints : Change ℕ) (printed : Change (Option Printed)) (calls : Change (Option (List Call))) (status : ℕ) (log : List Event)
     → Ends words files loads prints printed calls status log → status ≡ 4 → NamesBadTopology words files
-misshapen_cause words files loads prints printed calls status log (printed_all s to texts l owes steady follows made) eq = owes_four _ _ _ _ _ _ _ _ owes eq
-misshapen_cause words files loads prints printed calls status log (print_failed s to texts l owes rose follows made) eq = absurd (omega arith)
-misshapen_cause words files loads prints printed calls status log (out_of_memory q asks steady same made) eq = absurd (omega arith)
+bad_topology_cause words files loads prints printed calls status log (printed_all s to texts l is_output steady follows made) eq = output_four _ _ _ _ _ _ _ _ is_output eq
+bad_topology_cause words files loads prints printed calls status log (print_failed s to texts l is_output rose follows made) eq = absurd (omega arith)
+bad_topology_cause words files loads prints printed calls status log (out_of_memory q asks steady same made) eq = absurd (omega arith)
 
 pub fault_cause : (words : List (List ℕ)) (files : Option Files) (loads prints : Change ℕ) (printed : Change (Option Printed)) (calls : Change (Option (List Call))) (status : ℕ) (log : List Event)
     → Ends words files loads prints printed calls status log → status ≡ 5 → IsFault words files loads prints
-fault_cause words files loads prints printed calls status log (printed_all s to texts l owes steady follows made) eq = owes_five words files loads prints _ _ _ _ owes eq
-fault_cause words files loads prints printed calls status log (print_failed s to texts l owes rose follows made) eq = inr (inl rose)
+fault_cause words files loads prints printed calls status log (printed_all s to texts l is_output steady follows made) eq = output_five words files loads prints _ _ _ _ is_output eq
+fault_cause words files loads prints printed calls status log (print_failed s to texts l is_output rose follows made) eq = inr (inl rose)
 fault_cause words files loads prints printed calls status log (out_of_memory q asks steady same made) eq = absurd (omega arith)
 
 pub run_cause : (words : List (List ℕ)) (files : Option Files) (loads prints : Change ℕ) (printed : Change (Option Printed)) (calls : Change (Option (List Call))) (status : ℕ) (log : List Event)
     → Ends words files loads prints printed calls status log → IsRunStatus status → NamesRun words files status log
-run_cause words files loads prints printed calls status log (printed_all s to texts l owes steady follows made) run = owes_run _ _ _ _ _ _ _ _ owes run
-run_cause words files loads prints printed calls status log (print_failed s to texts l owes rose follows made) run = absurd (no_run _ (inr (inr (inr (inl refl)))) run)
+run_cause words files loads prints printed calls status log (printed_all s to texts l is_output steady follows made) run = output_run _ _ _ _ _ _ _ _ is_output run
+run_cause words files loads prints printed calls status log (print_failed s to texts l is_output rose follows made) run = absurd (no_run _ (inr (inr (inr (inl refl)))) run)
 run_cause words files loads prints printed calls status log (out_of_memory q asks steady same made) run = absurd (no_run _ (inr (inr (inr (inr refl)))) run)
 
 -- the records of a run's log are those of a complete sequential run
@@ -143,6 +143,6 @@ run_sequential words files status log named =
 
 pub memory_quiet : (words : List (List ℕ)) (files : Option Files) (loads prints : Change ℕ) (printed : Change (Option Printed)) (calls : Change (Option (List Call))) (status : ℕ) (log : List Event)
     → Ends words files loads prints printed calls status log → status ≡ 6 → printed.new ≡ printed.old
-memory_quiet words files loads prints printed calls status log (printed_all s to texts l owes steady follows made) eq = absurd (owes_six _ _ _ _ _ _ _ _ owes eq)
-memory_quiet words files loads prints printed calls status log (print_failed s to texts l owes rose follows made) eq = absurd (omega arith)
+memory_quiet words files loads prints printed calls status log (printed_all s to texts l is_output steady follows made) eq = absurd (output_six _ _ _ _ _ _ _ _ is_output eq)
+memory_quiet words files loads prints printed calls status log (print_failed s to texts l is_output rose follows made) eq = absurd (omega arith)
 memory_quiet words files loads prints printed calls status log (out_of_memory q asks steady same made) eq = same

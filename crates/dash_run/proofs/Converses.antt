@@ -69,102 +69,102 @@ moved P q r bytes other same_request same_file holds =
 
 -- ---- no form
 
-owes_no_form : (words : List (List ℕ)) (files : Option Files) (before after status : ℕ) (to : Stream) (texts : List (List ℕ)) (log : List Event)
+output_no_form : (words : List (List ℕ)) (files : Option Files) (before after status : ℕ) (to : Stream) (texts : List (List ℕ)) (log : List Event)
     → IsOutput words files before after status to texts log → IsUsageError words → status ≡ 2
-owes_no_form words files before after status to texts log (usage none same) formless = refl
-owes_no_form words files before after status to texts log (failed q asks rose) formless = absurd (formless q asks)
-owes_no_form words files before after status to texts log (large q size asks is same) formless = absurd (formless q asks)
-owes_no_form words files before after status to texts log (bad_topology q bytes refusal asks given is same) formless = absurd (formless q asks)
-owes_no_form words files before after status to texts log (refused q bytes refusal asks given is same) formless = absurd (formless q asks)
-owes_no_form words files before after status to texts log (reported q bytes s t l asks given is same) formless = absurd (formless q asks)
+output_no_form words files before after status to texts log (usage none same) usage_error = refl
+output_no_form words files before after status to texts log (failed q asks rose) usage_error = absurd (usage_error q asks)
+output_no_form words files before after status to texts log (large q size asks is same) usage_error = absurd (usage_error q asks)
+output_no_form words files before after status to texts log (bad_topology q bytes refusal asks given is same) usage_error = absurd (usage_error q asks)
+output_no_form words files before after status to texts log (refused q bytes refusal asks given is same) usage_error = absurd (usage_error q asks)
+output_no_form words files before after status to texts log (reported q bytes s t l asks given is same) usage_error = absurd (usage_error q asks)
 
 pub no_form_status : (words : List (List ℕ)) (files : Option Files) (loads prints : Change ℕ) (printed : Change (Option Printed)) (calls : Change (Option (List Call))) (status : ℕ) (log : List Event)
     → Ends words files loads prints printed calls status log → IsUsageError words → (status ≡ 2) ⊎ ((status ≡ 5) × Rose prints.old prints.new)
-no_form_status words files loads prints printed calls status log (printed_all s to texts l owes steady follows made) formless = inl (owes_no_form _ _ _ _ _ _ _ _ owes formless)
-no_form_status words files loads prints printed calls status log (print_failed s to texts l owes rose follows made) formless = inr (refl, rose)
-no_form_status words files loads prints printed calls status log (out_of_memory q asks steady same made) formless = absurd (formless q asks)
+no_form_status words files loads prints printed calls status log (printed_all s to texts l is_output steady follows made) usage_error = inl (output_no_form _ _ _ _ _ _ _ _ is_output usage_error)
+no_form_status words files loads prints printed calls status log (print_failed s to texts l is_output rose follows made) usage_error = inr (refl, rose)
+no_form_status words files loads prints printed calls status log (out_of_memory q asks steady same made) usage_error = absurd (usage_error q asks)
 
 -- ---- faults
 
-owes_fault : (words : List (List ℕ)) (files : Option Files) (before after status : ℕ) (to : Stream) (texts : List (List ℕ)) (log : List Event)
+output_fault : (words : List (List ℕ)) (files : Option Files) (before after status : ℕ) (to : Stream) (texts : List (List ℕ)) (log : List Event)
     → IsOutput words files before after status to texts log → before < after → status ≡ 5
-owes_fault words files before after status to texts log (usage none same) up = absurd (omega arith)
-owes_fault words files before after status to texts log (failed q asks rose) up = refl
-owes_fault words files before after status to texts log (large q size asks is same) up = absurd (omega arith)
-owes_fault words files before after status to texts log (bad_topology q bytes refusal asks given is same) up = absurd (omega arith)
-owes_fault words files before after status to texts log (refused q bytes refusal asks given is same) up = absurd (omega arith)
-owes_fault words files before after status to texts log (reported q bytes s t l asks given is same) up = absurd (omega arith)
+output_fault words files before after status to texts log (usage none same) up = absurd (omega arith)
+output_fault words files before after status to texts log (failed q asks rose) up = refl
+output_fault words files before after status to texts log (large q size asks is same) up = absurd (omega arith)
+output_fault words files before after status to texts log (bad_topology q bytes refusal asks given is same) up = absurd (omega arith)
+output_fault words files before after status to texts log (refused q bytes refusal asks given is same) up = absurd (omega arith)
+output_fault words files before after status to texts log (reported q bytes s t l asks given is same) up = absurd (omega arith)
 
 pub load_fault_status : (words : List (List ℕ)) (files : Option Files) (loads prints : Change ℕ) (printed : Change (Option Printed)) (calls : Change (Option (List Call))) (status : ℕ) (log : List Event)
     → Ends words files loads prints printed calls status log → loads.old < loads.new → (status ≡ 5) ⊎ (status ≡ 6)
-load_fault_status words files loads prints printed calls status log (printed_all s to texts l owes steady follows made) up = inl (owes_fault _ _ _ _ _ _ _ _ owes up)
-load_fault_status words files loads prints printed calls status log (print_failed s to texts l owes rose follows made) up = inl refl
+load_fault_status words files loads prints printed calls status log (printed_all s to texts l is_output steady follows made) up = inl (output_fault _ _ _ _ _ _ _ _ is_output up)
+load_fault_status words files loads prints printed calls status log (print_failed s to texts l is_output rose follows made) up = inl refl
 load_fault_status words files loads prints printed calls status log (out_of_memory q asks steady same made) up = inr refl
 
 pub print_fault_status : (words : List (List ℕ)) (files : Option Files) (loads prints : Change ℕ) (printed : Change (Option Printed)) (calls : Change (Option (List Call))) (status : ℕ) (log : List Event)
     → Ends words files loads prints printed calls status log → prints.old < prints.new → status ≡ 5
-print_fault_status words files loads prints printed calls status log (printed_all s to texts l owes steady follows made) up = absurd (omega arith)
-print_fault_status words files loads prints printed calls status log (print_failed s to texts l owes rose follows made) up = refl
+print_fault_status words files loads prints printed calls status log (printed_all s to texts l is_output steady follows made) up = absurd (omega arith)
+print_fault_status words files loads prints printed calls status log (print_failed s to texts l is_output rose follows made) up = refl
 print_fault_status words files loads prints printed calls status log (out_of_memory q asks steady same made) up = absurd (omega arith)
 
 -- ---- files
 
-owes_accepted : (words : List (List ℕ)) (files : Option Files) (loads prints : Change ℕ) (status : ℕ) (to : Stream) (texts : List (List ℕ)) (log : List Event) (r : Request) (file : List ℕ)
+output_accepted : (words : List (List ℕ)) (files : Option Files) (loads prints : Change ℕ) (status : ℕ) (to : Stream) (texts : List (List ℕ)) (log : List Event) (r : Request) (file : List ℕ)
     → IsOutput words files loads.old loads.new status to texts log → IsClean words files loads prints r file → length file ≤ image_limit → IsAccepted r file → IsRunStatus status
-owes_accepted words files loads prints status to texts log r file (usage none same) clean small accepted = absurd (none r clean.asked)
-owes_accepted words files loads prints status to texts log r file (failed q asks rose) clean small accepted = absurd (not_steady loads clean.loads_steady rose)
-owes_accepted words files loads prints status to texts log r file (large q size asks is same) clean small accepted = absurd (let size_is = same_size words files loads prints r q file size clean asks is in let above = is.large in omega arith)
-owes_accepted words files loads prints status to texts log r file (bad_topology q bytes refusal asks given is same) clean small accepted = absurd (accepted.topology refusal (moved (λ x b. IsRefusedTopology x refusal) r q file bytes (one_request words q r asks clean.asked) (same_bytes words files loads prints r q file bytes clean asks given) is))
-owes_accepted words files loads prints status to texts log r file (refused q bytes refusal asks given is same) clean small accepted = absurd (accepted.image refusal (moved (λ x b. IsRefused x b refusal) r q file bytes (one_request words q r asks clean.asked) (same_bytes words files loads prints r q file bytes clean asks given) is))
-owes_accepted words files loads prints status to texts log r file (reported q bytes s t l asks given is same) clean small accepted = reported_status q bytes s t l is
+output_accepted words files loads prints status to texts log r file (usage none same) clean small accepted = absurd (none r clean.asked)
+output_accepted words files loads prints status to texts log r file (failed q asks rose) clean small accepted = absurd (not_steady loads clean.loads_steady rose)
+output_accepted words files loads prints status to texts log r file (large q size asks is same) clean small accepted = absurd (let size_is = same_size words files loads prints r q file size clean asks is in let above = is.large in omega arith)
+output_accepted words files loads prints status to texts log r file (bad_topology q bytes refusal asks given is same) clean small accepted = absurd (accepted.topology refusal (moved (λ x b. IsRefusedTopology x refusal) r q file bytes (one_request words q r asks clean.asked) (same_bytes words files loads prints r q file bytes clean asks given) is))
+output_accepted words files loads prints status to texts log r file (refused q bytes refusal asks given is same) clean small accepted = absurd (accepted.image refusal (moved (λ x b. IsRefused x b refusal) r q file bytes (one_request words q r asks clean.asked) (same_bytes words files loads prints r q file bytes clean asks given) is))
+output_accepted words files loads prints status to texts log r file (reported q bytes s t l asks given is same) clean small accepted = reported_status q bytes s t l is
 
-owes_no_topology : (words : List (List ℕ)) (files : Option Files) (loads prints : Change ℕ) (status : ℕ) (to : Stream) (texts : List (List ℕ)) (log : List Event) (r : Request) (file : List ℕ)
+output_no_topology : (words : List (List ℕ)) (files : Option Files) (loads prints : Change ℕ) (status : ℕ) (to : Stream) (texts : List (List ℕ)) (log : List Event) (r : Request) (file : List ℕ)
     → IsOutput words files loads.old loads.new status to texts log → IsClean words files loads prints r file → length file ≤ image_limit → (why : TopoRefusal) → IsRefusedTopology r why → status ≡ 4
-owes_no_topology words files loads prints status to texts log r file (usage none same) clean small why first = absurd (none r clean.asked)
-owes_no_topology words files loads prints status to texts log r file (failed q asks rose) clean small why first = absurd (not_steady loads clean.loads_steady rose)
-owes_no_topology words files loads prints status to texts log r file (large q size asks is same) clean small why first = absurd (let size_is = same_size words files loads prints r q file size clean asks is in let above = is.large in omega arith)
-owes_no_topology words files loads prints status to texts log r file (bad_topology q bytes refusal asks given is same) clean small why first = refl
-owes_no_topology words files loads prints status to texts log r file (refused q bytes refusal asks given is same) clean small why first = absurd (none_is_none (simple_refusal r.clusters r.harts r.budget) why (moved (λ x b. simple_refusal x.clusters x.harts x.budget ≡ None) r q file bytes (one_request words q r asks clean.asked) (same_bytes words files loads prints r q file bytes clean asks given) (is.is_machine).accepted) first.refused)
-owes_no_topology words files loads prints status to texts log r file (reported q bytes s t l asks given is same) clean small why first = absurd (none_is_none (simple_refusal r.clusters r.harts r.budget) why (moved (λ x b. simple_refusal x.clusters x.harts x.budget ≡ None) r q file bytes (one_request words q r asks clean.asked) (same_bytes words files loads prints r q file bytes clean asks given) (is.is_machine).accepted) first.refused)
+output_no_topology words files loads prints status to texts log r file (usage none same) clean small why first = absurd (none r clean.asked)
+output_no_topology words files loads prints status to texts log r file (failed q asks rose) clean small why first = absurd (not_steady loads clean.loads_steady rose)
+output_no_topology words files loads prints status to texts log r file (large q size asks is same) clean small why first = absurd (let size_is = same_size words files loads prints r q file size clean asks is in let above = is.large in omega arith)
+output_no_topology words files loads prints status to texts log r file (bad_topology q bytes refusal asks given is same) clean small why first = refl
+output_no_topology words files loads prints status to texts log r file (refused q bytes refusal asks given is same) clean small why first = absurd (none_is_none (simple_refusal r.clusters r.harts r.budget) why (moved (λ x b. simple_refusal x.clusters x.harts x.budget ≡ None) r q file bytes (one_request words q r asks clean.asked) (same_bytes words files loads prints r q file bytes clean asks given) (is.is_machine).accepted) first.refused)
+output_no_topology words files loads prints status to texts log r file (reported q bytes s t l asks given is same) clean small why first = absurd (none_is_none (simple_refusal r.clusters r.harts r.budget) why (moved (λ x b. simple_refusal x.clusters x.harts x.budget ≡ None) r q file bytes (one_request words q r asks clean.asked) (same_bytes words files loads prints r q file bytes clean asks given) (is.is_machine).accepted) first.refused)
 
-owes_no_image : (words : List (List ℕ)) (files : Option Files) (loads prints : Change ℕ) (status : ℕ) (to : Stream) (texts : List (List ℕ)) (log : List Event) (r : Request) (file : List ℕ)
+output_no_image : (words : List (List ℕ)) (files : Option Files) (loads prints : Change ℕ) (status : ℕ) (to : Stream) (texts : List (List ℕ)) (log : List Event) (r : Request) (file : List ℕ)
     → IsOutput words files loads.old loads.new status to texts log → IsClean words files loads prints r file → length file ≤ image_limit → (why : LoadRefusal) → IsRefused r file why → status ≡ 3
-owes_no_image words files loads prints status to texts log r file (usage none same) clean small why first = absurd (none r clean.asked)
-owes_no_image words files loads prints status to texts log r file (failed q asks rose) clean small why first = absurd (not_steady loads clean.loads_steady rose)
-owes_no_image words files loads prints status to texts log r file (large q size asks is same) clean small why first = absurd (let size_is = same_size words files loads prints r q file size clean asks is in let above = is.large in omega arith)
-owes_no_image words files loads prints status to texts log r file (bad_topology q bytes refusal asks given is same) clean small why first = absurd (none_is_none (simple_refusal r.clusters r.harts r.budget) refusal (first.is_machine).accepted ((moved (λ x b. IsRefusedTopology x refusal) r q file bytes (one_request words q r asks clean.asked) (same_bytes words files loads prints r q file bytes clean asks given) is).refused))
-owes_no_image words files loads prints status to texts log r file (refused q bytes refusal asks given is same) clean small why first = refl
-owes_no_image words files loads prints status to texts log r file (reported q bytes s t l asks given is same) clean small why first = absurd (one_answer r file why s t l first (moved (λ x b. IsReported x b s t l) r q file bytes (one_request words q r asks clean.asked) (same_bytes words files loads prints r q file bytes clean asks given) is))
+output_no_image words files loads prints status to texts log r file (usage none same) clean small why first = absurd (none r clean.asked)
+output_no_image words files loads prints status to texts log r file (failed q asks rose) clean small why first = absurd (not_steady loads clean.loads_steady rose)
+output_no_image words files loads prints status to texts log r file (large q size asks is same) clean small why first = absurd (let size_is = same_size words files loads prints r q file size clean asks is in let above = is.large in omega arith)
+output_no_image words files loads prints status to texts log r file (bad_topology q bytes refusal asks given is same) clean small why first = absurd (none_is_none (simple_refusal r.clusters r.harts r.budget) refusal (first.is_machine).accepted ((moved (λ x b. IsRefusedTopology x refusal) r q file bytes (one_request words q r asks clean.asked) (same_bytes words files loads prints r q file bytes clean asks given) is).refused))
+output_no_image words files loads prints status to texts log r file (refused q bytes refusal asks given is same) clean small why first = refl
+output_no_image words files loads prints status to texts log r file (reported q bytes s t l asks given is same) clean small why first = absurd (one_answer r file why s t l first (moved (λ x b. IsReported x b s t l) r q file bytes (one_request words q r asks clean.asked) (same_bytes words files loads prints r q file bytes clean asks given) is))
 
-owes_large : (words : List (List ℕ)) (files : Option Files) (loads prints : Change ℕ) (status : ℕ) (to : Stream) (texts : List (List ℕ)) (log : List Event) (r : Request) (file : List ℕ)
+output_large : (words : List (List ℕ)) (files : Option Files) (loads prints : Change ℕ) (status : ℕ) (to : Stream) (texts : List (List ℕ)) (log : List Event) (r : Request) (file : List ℕ)
     → IsOutput words files loads.old loads.new status to texts log → IsClean words files loads prints r file → image_limit < length file → status ≡ 5
-owes_large words files loads prints status to texts log r file (usage none same) clean above = absurd (none r clean.asked)
-owes_large words files loads prints status to texts log r file (failed q asks rose) clean above = refl
-owes_large words files loads prints status to texts log r file (large q size asks is same) clean above = refl
-owes_large words files loads prints status to texts log r file (bad_topology q bytes refusal asks given is same) clean above = absurd (let len = ap length (same_bytes words files loads prints r q file bytes clean asks given) in let small = given.small in omega arith)
-owes_large words files loads prints status to texts log r file (refused q bytes refusal asks given is same) clean above = absurd (let len = ap length (same_bytes words files loads prints r q file bytes clean asks given) in let small = given.small in omega arith)
-owes_large words files loads prints status to texts log r file (reported q bytes s t l asks given is same) clean above = absurd (let len = ap length (same_bytes words files loads prints r q file bytes clean asks given) in let small = given.small in omega arith)
+output_large words files loads prints status to texts log r file (usage none same) clean above = absurd (none r clean.asked)
+output_large words files loads prints status to texts log r file (failed q asks rose) clean above = refl
+output_large words files loads prints status to texts log r file (large q size asks is same) clean above = refl
+output_large words files loads prints status to texts log r file (bad_topology q bytes refusal asks given is same) clean above = absurd (let len = ap length (same_bytes words files loads prints r q file bytes clean asks given) in let small = given.small in omega arith)
+output_large words files loads prints status to texts log r file (refused q bytes refusal asks given is same) clean above = absurd (let len = ap length (same_bytes words files loads prints r q file bytes clean asks given) in let small = given.small in omega arith)
+output_large words files loads prints status to texts log r file (reported q bytes s t l asks given is same) clean above = absurd (let len = ap length (same_bytes words files loads prints r q file bytes clean asks given) in let small = given.small in omega arith)
 
 pub accepted_status : (words : List (List ℕ)) (files : Option Files) (loads prints : Change ℕ) (printed : Change (Option Printed)) (calls : Change (Option (List Call))) (status : ℕ) (log : List Event) (r : Request) (file : List ℕ)
     → Ends words files loads prints printed calls status log → IsClean words files loads prints r file → length file ≤ image_limit → IsAccepted r file → IsRunStatus status ⊎ (status ≡ 6)
-accepted_status words files loads prints printed calls status log r file (printed_all s to texts l owes steady follows made) clean small accepted = inl (owes_accepted words files loads prints s to texts l r file owes clean small accepted)
-accepted_status words files loads prints printed calls status log r file (print_failed s to texts l owes rose follows made) clean small accepted = absurd (not_steady prints clean.prints_steady rose)
+accepted_status words files loads prints printed calls status log r file (printed_all s to texts l is_output steady follows made) clean small accepted = inl (output_accepted words files loads prints s to texts l r file is_output clean small accepted)
+accepted_status words files loads prints printed calls status log r file (print_failed s to texts l is_output rose follows made) clean small accepted = absurd (not_steady prints clean.prints_steady rose)
 accepted_status words files loads prints printed calls status log r file (out_of_memory q asks steady same made) clean small accepted = inr refl
 
 pub no_topology_status : (words : List (List ℕ)) (files : Option Files) (loads prints : Change ℕ) (printed : Change (Option Printed)) (calls : Change (Option (List Call))) (status : ℕ) (log : List Event) (r : Request) (file : List ℕ)
     → Ends words files loads prints printed calls status log → IsClean words files loads prints r file → length file ≤ image_limit → (why : TopoRefusal) → IsRefusedTopology r why → (status ≡ 4) ⊎ (status ≡ 6)
-no_topology_status words files loads prints printed calls status log r file (printed_all s to texts l owes steady follows made) clean small why first = inl (owes_no_topology words files loads prints s to texts l r file owes clean small why first)
-no_topology_status words files loads prints printed calls status log r file (print_failed s to texts l owes rose follows made) clean small why first = absurd (not_steady prints clean.prints_steady rose)
+no_topology_status words files loads prints printed calls status log r file (printed_all s to texts l is_output steady follows made) clean small why first = inl (output_no_topology words files loads prints s to texts l r file is_output clean small why first)
+no_topology_status words files loads prints printed calls status log r file (print_failed s to texts l is_output rose follows made) clean small why first = absurd (not_steady prints clean.prints_steady rose)
 no_topology_status words files loads prints printed calls status log r file (out_of_memory q asks steady same made) clean small why first = inr refl
 
 pub no_image_status : (words : List (List ℕ)) (files : Option Files) (loads prints : Change ℕ) (printed : Change (Option Printed)) (calls : Change (Option (List Call))) (status : ℕ) (log : List Event) (r : Request) (file : List ℕ)
     → Ends words files loads prints printed calls status log → IsClean words files loads prints r file → length file ≤ image_limit → (why : LoadRefusal) → IsRefused r file why → (status ≡ 3) ⊎ (status ≡ 6)
-no_image_status words files loads prints printed calls status log r file (printed_all s to texts l owes steady follows made) clean small why first = inl (owes_no_image words files loads prints s to texts l r file owes clean small why first)
-no_image_status words files loads prints printed calls status log r file (print_failed s to texts l owes rose follows made) clean small why first = absurd (not_steady prints clean.prints_steady rose)
+no_image_status words files loads prints printed calls status log r file (printed_all s to texts l is_output steady follows made) clean small why first = inl (output_no_image words files loads prints s to texts l r file is_output clean small why first)
+no_image_status words files loads prints printed calls status log r file (print_failed s to texts l is_output rose follows made) clean small why first = absurd (not_steady prints clean.prints_steady rose)
 no_image_status words files loads prints printed calls status log r file (out_of_memory q asks steady same made) clean small why first = inr refl
 
 pub large_status : (words : List (List ℕ)) (files : Option Files) (loads prints : Change ℕ) (printed : Change (Option Printed)) (calls : Change (Option (List Call))) (status : ℕ) (log : List Event) (r : Request) (file : List ℕ)
     → Ends words files loads prints printed calls status log → IsClean words files loads prints r file → image_limit < length file → (status ≡ 5) ⊎ (status ≡ 6)
-large_status words files loads prints printed calls status log r file (printed_all s to texts l owes steady follows made) clean above = inl (owes_large words files loads prints s to texts l r file owes clean above)
-large_status words files loads prints printed calls status log r file (print_failed s to texts l owes rose follows made) clean above = inl refl
+large_status words files loads prints printed calls status log r file (printed_all s to texts l is_output steady follows made) clean above = inl (output_large words files loads prints s to texts l r file is_output clean above)
+large_status words files loads prints printed calls status log r file (print_failed s to texts l is_output rose follows made) clean above = inl refl
 large_status words files loads prints printed calls status log r file (out_of_memory q asks steady same made) clean above = inr refl

@@ -4,7 +4,7 @@ pub mod Words
 pub mod Maps
 pub mod Requests
 pub mod Answers
-pub mod Owing
+pub mod Outputs
 pub mod Causes
 pub mod Converses
 pub mod Turns

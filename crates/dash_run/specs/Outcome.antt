@@ -1,4 +1,4 @@
--- What a call of the program owes, and how it may end.
+-- The output of a call of the program, and how it may end.
 use Rattle.std.specs.Prelude.{◌≡◌, ℕ, ◌<◌, ◌≤◌, ◌⊎◌, List, [], ◌∷◌, ◌++◌, length, map, fold, codes, decimal, Option, Some, None, IfSome, IsSomeAnd}
 use Rattle.dash_base.specs.Outside.{Files, Printed, Appends, AppendsPart, Follows, Rose, last_count, Call, load_of, print_on, failed_print_on, with_calls}
 use Rattle.dash_base.specs.Topology.{IsSimple, simple_refusal}
@@ -126,7 +126,7 @@ pub record IsTooLarge (files : Option Files) (name : List ℕ) (size : ℕ) : Ty
   pub large : image_limit < size
   pub told : IfSome files (λ file_at. IsSomeAnd (file_at name) (λ bytes. length bytes ≡ size))
 
--- What a call owes, an exit status, texts on one stream, each for a print, and a log, and why. The counts are the host's failed loads, before and after.
+-- The output of a call, an exit status, texts on one stream, each for a print, and a log, and why. The counts are the host's failed loads, before and after.
 pub data IsOutput (words : List (List ℕ)) (files : Option Files) (before after : ℕ) : ℕ → Stream → List (List ℕ) → List Event → Type 0 where
   -- the words have no form that is served
   usage : IsUsageError words → after ≡ before → IsOutput words files before after 2 stream.Err (usage_line ∷ []) []
@@ -184,7 +184,7 @@ pub record PrintsPart (words : List (List ℕ)) (to : Stream) (texts : List (Lis
 
 -- how a call ended, with an exit status and a log
 pub data Ends (words : List (List ℕ)) (files : Option Files) (loads prints : Change ℕ) (printed : Change (Option Printed)) (calls : Change (Option (List Call))) : ℕ → List Event → Type 0 where
-  -- it printed all that it owes
+  -- it printed its whole output
   printed_all : (status : ℕ) (to : Stream) (texts : List (List ℕ)) (log : List Event) → IsOutput words files loads.old loads.new status to texts log
       → prints.new ≡ prints.old → Follows (Appends to (joined texts)) printed.old printed.new → PrintsAll words to texts calls → Ends words files loads prints printed calls status log
   -- a print failed, after a part of it

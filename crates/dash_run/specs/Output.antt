@@ -31,10 +31,10 @@ output_stream (Line status text) = stream.Err
 output_stream (Report status console harts accesses log) = stream.Out
 
 -- one text for each print
-abbrev pub owed_texts : Output → List (List ℕ)
-owed_texts Usage = usage_line ∷ []
-owed_texts (Line status text) = string_bytes text ∷ []
-owed_texts (Report status console harts accesses log) = console.items ∷ string_bytes harts ∷ string_bytes accesses ∷ []
+abbrev pub output_texts : Output → List (List ℕ)
+output_texts Usage = usage_line ∷ []
+output_texts (Line status text) = string_bytes text ∷ []
+output_texts (Report status console harts accesses log) = console.items ∷ string_bytes harts ∷ string_bytes accesses ∷ []
 
 abbrev pub output_log : Output → List Event
 output_log (Report status console harts accesses log) = log.items
@@ -66,7 +66,7 @@ pub record HasTried (to : Stream) (texts : List (List ℕ)) (old new : Option (L
   pub breaks_off : BreakOff to texts calls
   pub made : new ≡ with_calls old calls
 
--- what is owed for an image with these bytes
+-- the output for an image with these bytes
 abbrev pub IsAnswer : Request → List ℕ → Output → Type 0
 IsAnswer q bytes Usage = ⊥
 IsAnswer q bytes (Line status text) = IsTopologyLine q status (string_bytes text) ⊎ IsRefusalLine q bytes status (string_bytes text)
@@ -80,13 +80,13 @@ pub record IsRunReport (image : ImageView) (t : Topology) (status : ℕ) (texts 
   pub is_status : status ≡ status_of t (harts_of t state)
   pub is_report : texts ≡ report_of t state log
 
--- what is owed is that report
+-- the output is that report
 abbrev pub IsReport : ImageView → Topology → Output → Type 0
 IsReport image t (Report status console harts accesses log) =
     IsRunReport image t status (console.items ∷ string_bytes harts ∷ string_bytes accesses ∷ []) log.items
 IsReport image t _ = ⊥
 
--- what is owed on a topology that is accepted: the refusal of the image, or its report
+-- the output on a topology that is accepted: the refusal of the image, or its report
 pub record IsRefusalOn (t : Topology) (bytes : List ℕ) (status : ℕ) (text : List ℕ) : Type 0 where
   pub map : MemoryMap
   pub base : map.base ≡ t.base
@@ -96,12 +96,12 @@ pub record IsRefusalOn (t : Topology) (bytes : List ℕ) (status : ℕ) (text : 
   pub status_is : status ≡ 3
   pub text_is : text ≡ refusal_line refusal
 
-pub record IsReportOn (t : Topology) (bytes : List ℕ) (owed : Output) : Type 0 where
+pub record IsReportOn (t : Topology) (bytes : List ℕ) (output : Output) : Type 0 where
   pub map : MemoryMap
   pub base : map.base ≡ t.base
   pub size : map.size ≡ t.memory
   pub accepted : IsLoadable bytes map
-  pub report : IsReport (image_of bytes) t owed
+  pub report : IsReport (image_of bytes) t output
 
 abbrev pub IsAnswerOn : Topology → List ℕ → Output → Type 0
 IsAnswerOn t bytes Usage = ⊥

@@ -12,7 +12,7 @@ use dash_base::{OutOfMemory, Topology};
 use elf_load::{Image, LoadRefusal, MemoryMap, load};
 use std::alloc::Global;
 
-/// What is owed for an image file with these bytes: the refusal of the topology, or of the image, or
+/// The output for an image file with these bytes: the refusal of the topology, or of the image, or
 /// the report of the run.
 pub fn answer(alloc: Global, command: &Command<'_>, bytes: Vec<u8>) -> Result<Output, OutOfMemory>
     ensures { IfOk result (IsAnswer (record { name = command.now.name.now; clusters = command.now.clusters; harts = command.now.harts; budget = command.now.budget }) bytes.items) }
@@ -26,7 +26,7 @@ pub fn answer(alloc: Global, command: &Command<'_>, bytes: Vec<u8>) -> Result<Ou
     }
 }
 
-/// What is owed on a topology that is accepted.
+/// The output on a topology that is accepted.
 fn answer_on(alloc: Global, topology: &Topology, bytes: Vec<u8>) -> Result<Output, OutOfMemory>
     ensures { IfOk result (IsAnswerOn topology.now bytes.items) }
 {

@@ -1,6 +1,6 @@
 //! From the words of a command line to the printed report.
 //!
-//! [`dash`] is the call that the program makes. Its contract is the theorem: what a call owes, and how
+//! [`dash`] is the call that the program makes. Its contract is the theorem: what a call is_output, and how
 //! it may end.
 #![tactic(auto)]
 

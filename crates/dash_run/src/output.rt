@@ -3,7 +3,7 @@
 use dash_event::Event;
 use std::alloc::Global;
 
-/// What a call owes when nothing more fails: an exit status, and text on one stream.
+/// The output of a call when nothing more fails: an exit status, and text on one stream.
 #[derive(Drop)]
 pub enum Output {
     /// Status 2, and the usage line on standard error.

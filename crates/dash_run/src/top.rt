@@ -4,7 +4,7 @@ ghost use Rattle.dash_base.specs.declared.host.Stream.TheVariants as stream;
 ghost use Rattle.dash_base.specs.Outside.{Appends, AppendsPart, Follows, Rose, print_on, with_calls};
 ghost use Rattle.dash_run.specs.CommandLine.{Request, Asks, IsAsked};
 ghost use Rattle.dash_run.specs.Outcome.{IsOutput, Ends, IsRunStatus, RunsSequentially, joined};
-ghost use Rattle.dash_run.specs.Output.{output_status, output_stream, owed_texts, output_log, HasLoaded, HasTried};
+ghost use Rattle.dash_run.specs.Output.{output_status, output_stream, output_texts, output_log, HasLoaded, HasTried};
 
 use crate::answer::answer;
 use crate::command_line::read_words;
@@ -23,7 +23,7 @@ pub struct Ended {
     pub log: Vec<Event>,
 }
 
-/// The top call: does what the words ask for, and prints the report or the line that it owes.
+/// The top call: does what the words ask for, and prints the report or the line.
 ///
 /// The host may be asked for the image that the words name, and for nothing else. What follows from
 /// the clause `outcome` are laws of the module `laws`: each status has its cause, each cause its
@@ -42,7 +42,7 @@ pub fn dash<H: Host>(alloc: Global, words: &[String], host: &mut H) -> Ended
     carry_out(alloc, words, host)
 }
 
-/// Does what the words ask for, and prints what it owes.
+/// Does what the words ask for, and prints its output.
 fn carry_out<H: Host>(alloc: Global, words: &[String], host: &mut H) -> Ended
     requires { (q : Request) → Asks (map string_bytes words.now) q → IsTrue (H.may_load host.old q.name) }
     ensures outcome { Ends (map string_bytes words.now) (H.files host.old)
@@ -52,14 +52,14 @@ fn carry_out<H: Host>(alloc: Global, words: &[String], host: &mut H) -> Ended
         (record { old = H.calls host.old; new = H.calls host.new }) result.status result.log.items }
 {
     match prepare(alloc, words, host) {
-        Ok(owed) => match show(host, &owed) {
+        Ok(output) => match show(host, &output) {
             Ok(()) => Ended {
-                status: owed.status(),
-                log: owed.into_log(alloc),
+                status: output.status(),
+                log: output.into_log(alloc),
             },
             Err(Failed) => Ended {
                 status: 5,
-                log: owed.into_log(alloc),
+                log: output.into_log(alloc),
             },
         },
         Err(OutOfMemory) => Ended {
@@ -72,7 +72,7 @@ fn carry_out<H: Host>(alloc: Global, words: &[String], host: &mut H) -> Ended
 /// Loads the image that the words name, and makes what is to be printed.
 fn prepare<H: Host>(alloc: Global, words: &[String], host: &mut H) -> Result<Output, OutOfMemory>
     requires { (q : Request) → Asks (map string_bytes words.now) q → IsTrue (H.may_load host.old q.name) }
-    ensures owes { IfOk result (λ owed. IsOutput (map string_bytes words.now) (H.files host.old) (H.load_faults host.old) (H.load_faults host.new) (output_status owed) (output_stream owed) (owed_texts owed) (output_log owed)) }
+    ensures is_output { IfOk result (λ output. IsOutput (map string_bytes words.now) (H.files host.old) (H.load_faults host.old) (H.load_faults host.new) (output_status output) (output_stream output) (output_texts output) (output_log output)) }
     ensures memory { OnErr result (IsAsked (map string_bytes words.now)) }
     ensures printed { H.printed host.new ≡ H.printed host.old }
     ensures print_faults { H.print_faults host.new ≡ H.print_faults host.old }
@@ -95,17 +95,17 @@ fn prepare<H: Host>(alloc: Global, words: &[String], host: &mut H) -> Result<Out
     }
 }
 
-/// Prints what is owed.
-fn show<H: Host>(host: &mut H, owed: &Output) -> Result<(), Failed>
-    ensures ok { OnOk result (Follows (Appends (output_stream owed.now) (joined (owed_texts owed.now))) (H.printed host.old) (H.printed host.new)) }
-    ensures err { OnErr result (Follows (AppendsPart (output_stream owed.now) (joined (owed_texts owed.now))) (H.printed host.old) (H.printed host.new)) }
+/// Prints the output.
+fn show<H: Host>(host: &mut H, output: &Output) -> Result<(), Failed>
+    ensures ok { OnOk result (Follows (Appends (output_stream output.now) (joined (output_texts output.now))) (H.printed host.old) (H.printed host.new)) }
+    ensures err { OnErr result (Follows (AppendsPart (output_stream output.now) (joined (output_texts output.now))) (H.printed host.old) (H.printed host.new)) }
     ensures failed { OnErr result (Rose (H.print_faults host.old) (H.print_faults host.new)) }
     ensures steady { OnOk result (H.print_faults host.new ≡ H.print_faults host.old) }
     ensures load_faults { H.load_faults host.new ≡ H.load_faults host.old }
-    ensures printed_all { OnOk result (H.calls host.new ≡ with_calls (H.calls host.old) (map (print_on (output_stream owed.now)) (owed_texts owed.now))) }
-    ensures broke_off { OnErr result (HasTried (output_stream owed.now) (owed_texts owed.now) (H.calls host.old) (H.calls host.new)) }
+    ensures printed_all { OnOk result (H.calls host.new ≡ with_calls (H.calls host.old) (map (print_on (output_stream output.now)) (output_texts output.now))) }
+    ensures broke_off { OnErr result (HasTried (output_stream output.now) (output_texts output.now) (H.calls host.old) (H.calls host.new)) }
 {
-    match owed {
+    match output {
         Output::Usage => host.print(Stream::Err, lines::usage().as_bytes()),
         Output::Line { text, .. } => host.print(Stream::Err, text.as_bytes()),
         Output::Report {

@@ -1,18 +1,18 @@
 use Rattle.std.proofs.Common.{rules, refl, ap, ◌∙◌, Err}
 use Rattle.dash_base.specs.declared.host.LoadFault.TheVariants.{TooLarge}
-use Rattle.dash_run.proofs.Owing.{answer_owed, told_size, loaded_one, loaded_none}
+use Rattle.dash_run.proofs.Outputs.{answer_output, told_size, loaded_one, loaded_none}
 use Rattle.dash_run.specs.Outcome.{usage, failed, large}
 use Rattle.dash_run.proofs.top.prepare.Goals as goal
 
-pub returns-in_default-clause-owes : goal.returns-in_default-clause-owes
-returns-in_default-clause-owes g c = usage c.in_default.ensures.none refl
+pub returns-in_default-clause-is_output : goal.returns-in_default-clause-is_output
+returns-in_default-clause-is_output g c = usage c.in_default.ensures.none refl
 
-pub returns-in_ok-answer-in-Ok-clause-owes : goal.returns-in_ok-answer-in-Ok-clause-owes
-returns-in_ok-answer-in-Ok-clause-owes g c =
-    answer_owed _ _ _ _ _ c.in-Ok.bytes.items c.in_ok-answer-in-Ok.field-0 c.in-Some.ensures.some (record { small = search rules; told = c.in-Ok.ensures.bytes }) c.in-Ok.ensures.counted c.in_ok-answer-in-Ok.ensures
+pub returns-in_ok-answer-in-Ok-clause-is_output : goal.returns-in_ok-answer-in-Ok-clause-is_output
+returns-in_ok-answer-in-Ok-clause-is_output g c =
+    answer_output _ _ _ _ _ c.in-Ok.bytes.items c.in_ok-answer-in-Ok.field-0 c.in-Some.ensures.some (record { small = search rules; told = c.in-Ok.ensures.bytes }) c.in-Ok.ensures.counted c.in_ok-answer-in-Ok.ensures
 
-pub returns-in_ok-too_large-in-Err-TooLarge-clause-owes : goal.returns-in_ok-too_large-in-Err-TooLarge-clause-owes
-returns-in_ok-too_large-in-Err-TooLarge-clause-owes g c =
+pub returns-in_ok-too_large-in-Err-TooLarge-clause-is_output : goal.returns-in_ok-too_large-in-Err-TooLarge-clause-is_output
+returns-in_ok-too_large-in-Err-TooLarge-clause-is_output g c =
     let is = c.in-Err-TooLarge.is ∙ ap Err c.in-Err-TooLarge.field-0-is in
     let counted = rw c.in-Err-TooLarge.field-0-is at c.in-Err-TooLarge.ensures.counted in
     rw c.in_ok-too_large-in-Err-TooLarge.ensures
@@ -21,8 +21,8 @@ returns-in_ok-too_large-in-Err-TooLarge-clause-owes g c =
       told = told_size _ _ (λ s. Err (TooLarge s)) _ _ c.load.ensures.size is;
     }) counted)
 
-pub returns-in_ok-failed-in-Err-Failed-clause-owes : goal.returns-in_ok-failed-in-Err-Failed-clause-owes
-returns-in_ok-failed-in-Err-Failed-clause-owes g c =
+pub returns-in_ok-failed-in-Err-Failed-clause-is_output : goal.returns-in_ok-failed-in-Err-Failed-clause-is_output
+returns-in_ok-failed-in-Err-Failed-clause-is_output g c =
     let counted = rw c.in-Err-Failed.field-0-is at c.in-Err-Failed.ensures.counted in
     rw c.in_ok-failed-in-Err-Failed.ensures (failed _ c.in-Some.ensures.some counted)
 
