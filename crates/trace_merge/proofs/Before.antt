@@ -34,13 +34,13 @@ pub same_hart : (g h : HartId) → g.0 ≡ h.0 → g ≡ h
 same_hart g h e = λ i. record { 0 = e i }
 
 -- a load writes nothing
-pub load_writes_nothing : (a : Access) → IsLoad a → HasShape a.op (unseen a) → a.written ≡ None
-load_writes_nothing a (inl load) shape = (subst (λ o. HasShape o (unseen a)) load.0 shape).0
-load_writes_nothing a (inr reserve) shape = (subst (λ o. HasShape o (unseen a)) reserve.0 shape).0
+pub load_writes_nothing : (a : Access) (level : ℕ) → IsLoad a level → HasShape a.op (unseen a) → a.written ≡ None
+load_writes_nothing a level (inl load) shape = (subst (λ o. HasShape o (unseen a)) load.0 shape).0
+load_writes_nothing a level (inr reserve) shape = (subst (λ o. HasShape o (unseen a)) reserve.0 shape).0
 
-pub load_reads : (a : Access) → IsLoad a → HasShape a.op (unseen a) → IsSome a.read
-load_reads a (inl load) shape = (subst (λ o. HasShape o (unseen a)) load.0 shape).1
-load_reads a (inr reserve) shape = (subst (λ o. HasShape o (unseen a)) reserve.0 shape).1
+pub load_reads : (a : Access) (level : ℕ) → IsLoad a level → HasShape a.op (unseen a) → IsSome a.read
+load_reads a level (inl load) shape = (subst (λ o. HasShape o (unseen a)) load.0 shape).1
+load_reads a level (inr reserve) shape = (subst (λ o. HasShape o (unseen a)) reserve.0 shape).1
 
 module _ (image : ImageView) (t : Topology) (log : List Event) (f : IsAdmissible image t log) where
   -- a release of a hart after position i and before position n
@@ -98,7 +98,7 @@ module _ (image : ImageView) (t : Topology) (log : List Event) (f : IsAdmissible
   point_by i q n a r (kind.Load b lev) at_i at_q makes from before hart release =
       let same : unseen b ≡ r = cc in
       let e = replays image t log f q (kind.Load b lev) at_q in
-      let none : b.written ≡ None = load_writes_nothing b e.1 (shape_of (f.harts q) (f.harts (suc q)) b e.0) in
+      let none : b.written ≡ None = load_writes_nothing b lev e.1 (shape_of (f.harts q) (f.harts (suc q)) b e.0) in
       absurd (let no : false ≡ true = ap is_some (sym none) ∙ ap (λ x. is_some x.written) same ∙ release.writes in cc)
   point_by i q n a r (kind.Store b) at_i at_q makes from before hart release =
       let same : unseen b ≡ r = cc in

@@ -53,9 +53,9 @@ moved_by old new hart g others false e = sym (others g (λ same. (let t : (g == 
 pub moved : (old new : Harts) (hart : HartId) → ((i : ℕ) → i ≢ hart.0 → new i ≡ old i) → (λ (g : ℕ). if g == hart.0 then new hart.0 else old g) ≡ new
 moved old new hart others = λ i g. moved_by old new hart g others (g == hart.0) refl i
 
-load_kind : (a : Access) → IsLoad a → (is_load a.op ≡ true) × (is_of_memory a.op ≡ true)
-load_kind a (inl load) = (ap is_load load.0, ap is_of_memory load.0)
-load_kind a (inr reserve) = (ap is_load reserve.0, ap is_of_memory reserve.0)
+load_kind : (a : Access) (level : ℕ) → IsLoad a level → (is_load a.op ≡ true) × (is_of_memory a.op ≡ true)
+load_kind a level (inl load) = (ap is_load load.0, ap is_of_memory load.0)
+load_kind a level (inr reserve) = (ap is_load reserve.0, ap is_of_memory reserve.0)
 
 rmw_kind : (a : Access) → IsRmw a → is_of_memory a.op ≡ true
 rmw_kind a (inl amo) = ap is_of_memory amo
@@ -154,26 +154,26 @@ module _ (image : ImageView) (t : Topology) (log : List Event) (f : IsAdmissible
       own_agrees image t log f n a number x (byte_of_word x (s.memory a.word.0)) own (race_free n met.before) small has (memory_at_end image t (steps log n) s met.runs a.word.0 x small)) in
       own.read ∙ ap Some (sym bytes)
 
-  pub load_step : (n : ℕ) (s : FlatState) (a : Access) (level : ℕ) → IsMet n s → IsEventAt log n (kind.Load a level) → Accesses image t s.harts (f.harts (suc n)) a → IsLoad a → IsRunTo (suc n)
+  pub load_step : (n : ℕ) (s : FlatState) (a : Access) (level : ℕ) → IsMet n s → IsEventAt log n (kind.Load a level) → Accesses image t s.harts (f.harts (suc n)) a → IsLoad a level → IsRunTo (suc n)
   load_step n s a level met at e load = by_access n s (kind.Load a level) a met at refl e (can_load s a.hart.0 _ e.need e.content e.succeeds (unseen a) e.is_offered kinds.0 (by_shown load))
     where
       kinds : (is_load a.op ≡ true) × (is_of_memory a.op ≡ true)
-      kinds = load_kind a load
+      kinds = load_kind a level load
 
       some : IsSome a.read
-      some = load_reads a load (shape_of image t log f s.harts (f.harts (suc n)) a e)
+      some = load_reads a level load (shape_of image t log f s.harts (f.harts (suc n)) a e)
 
-      by_version : IsShownVersion a → a.read ≡ Some (bytes_under a.mask (s.memory a.word.0))
+      by_version : IsShownVersion a level → a.read ≡ Some (bytes_under a.mask (s.memory a.word.0))
       by_version v =
           let c = can_do_other s a.hart.0 _ e.need e.content e.succeeds (unseen a) e.is_offered kinds.1 in
           let o = other n s a met e c in
           reads_line n s a c.access v.version met
           (record { shown = record { event = record { kind = kind.Load a level; at = at; is = refl }; seen = v.is }; race_free = o.race_free; hart = c.same_hart; word = c.same_word }) c.same_mask some
 
-      by_store : IsShownStore a → a.read ≡ Some (bytes_under a.mask (s.memory a.word.0))
+      by_store : IsShownStore a level → a.read ≡ Some (bytes_under a.mask (s.memory a.word.0))
       by_store k = reads_own n s a k.number met (f.coherent.own_is_newest n a level k.number at k.is)
 
-      by_shown : IsLoad a → a.read ≡ Some (bytes_under a.mask (s.memory a.word.0))
+      by_shown : IsLoad a level → a.read ≡ Some (bytes_under a.mask (s.memory a.word.0))
       by_shown (inl (is, inl v)) = by_version v
       by_shown (inl (is, inr k)) = by_store k
       by_shown (inr (is, v)) = by_version v

@@ -59,11 +59,11 @@ stays_on : (old new : Harts) (g : ℕ) → new g ≡ old g → (old g).retired �
 stays_on old new g same = let e : (new g).retired ≡ (old g).retired = ap (λ s. s.retired) same in omega arith
 
 retired_on : (image : ImageView) (t : Topology) (old new : Harts) (k : Kind) (g : ℕ) → Replays image t old k new → (old g).retired ≤ (new g).retired
-retired_on image t old new (kind.Alu h pc) g r = moves_on image t old new h _ _ g r (same_or_not g h.0)
-retired_on image t old new (kind.Fence h pc) g r = moves_on image t old new h _ _ g r.moves (same_or_not g h.0)
-retired_on image t old new (kind.Hint h pc s) g r = moves_on image t old new h _ _ g r.moves (same_or_not g h.0)
-retired_on image t old new (kind.Put h pc b) g r = moves_on image t old new h _ _ g r (same_or_not g h.0)
-retired_on image t old new (kind.Stop h pc e) g r = moves_on image t old new h _ _ g r (same_or_not g h.0)
+retired_on image t old new (kind.Alu h pc) g r = moves_on image t old new h _ _ g r.moves (same_or_not g h.0)
+retired_on image t old new (kind.Fence h pc) g r = moves_on image t old new h _ _ g r.next.moves (same_or_not g h.0)
+retired_on image t old new (kind.Hint h pc s) g r = moves_on image t old new h _ _ g r.next.moves (same_or_not g h.0)
+retired_on image t old new (kind.Put h pc b) g r = moves_on image t old new h _ _ g r.moves (same_or_not g h.0)
+retired_on image t old new (kind.Stop h pc e) g r = moves_on image t old new h _ _ g r.moves (same_or_not g h.0)
 retired_on image t old new (kind.Load a l) g r = moves_on image t old new a.hart _ _ g r.0.moves (same_or_not g a.hart.0)
 retired_on image t old new (kind.Store a) g r = moves_on image t old new a.hart _ _ g r.0.moves (same_or_not g a.hart.0)
 retired_on image t old new (kind.Rmw a l v) g r = moves_on image t old new a.hart _ _ g r.0.moves (same_or_not g a.hart.0)

@@ -118,11 +118,11 @@ module _ (t : Topology) (s : IsSimple 1 1 8 t) where
   moves : (i : ℕ) (k : Kind) → IsEventAt forwarding_log i k → Replays forwarding_image t (harts i) k (harts (i + 1))
   moves zero k at = subst (λ x. Replays forwarding_image t (harts 0) x (harts 1)) (let e : kind.Store forwarded_store ≡ k = cc in e) (store_moves, refl, refl)
   moves (suc zero) k at =
-      subst (λ x. Replays forwarding_image t (harts 1) x (harts 2)) (let e : kind.Load forwarded_load 0 ≡ k = cc in e) (byte_moves, inl (refl, inr (record { number = 1; is = refl })))
+      subst (λ x. Replays forwarding_image t (harts 1) x (harts 2)) (let e : kind.Load forwarded_load 0 ≡ k = cc in e) (byte_moves, inl (refl, inr (record { number = 1; is = refl; in_buffer = refl })))
   moves (suc (suc zero)) k at =
       subst (λ x. Replays forwarding_image t (harts 2) x (harts 3)) (let e : kind.Commit hart_0 1 line_4 1 ≡ k = cc in e) (record { in_range = count; stays = λ g. refl })
   moves (suc (suc (suc zero))) k at =
-      subst (λ x. Replays forwarding_image t (harts 3) x (harts 4)) (let e : kind.Load committed_load 1 ≡ k = cc in e) (word_moves, inl (refl, inl (record { version = 1; is = refl })))
+      subst (λ x. Replays forwarding_image t (harts 3) x (harts 4)) (let e : kind.Load committed_load 1 ≡ k = cc in e) (word_moves, inl (refl, inl (record { version = 1; is = refl; in_caches = inl refl })))
   moves (suc (suc (suc (suc i)))) k at = absurd cc
 
   pub replay : IsReplay forwarding_image t forwarding_log harts

@@ -27,22 +27,25 @@ module _ (image : ImageView) (t : Topology) (log : List Event) (f : IsAdmissible
   -- each kind of event
   step_on : (n : ℕ) (s : FlatState) (k : Kind) → IsMet image t log f labelled n s → IsEventAt log n k → Replays image t s.harts k (f.harts (suc n)) → IsRunTo image t log f labelled (suc n)
   step_on n s (kind.Alu h pc) met at e =
-      with_record image t log f labelled n (kind.Alu h pc) (step.Plain h) s (flat_state_after s (step.Plain h) (f.harts (suc n) h.0)) at refl met.runs
-      (record { in_range = e.in_range; need = needed.Alu; succeeds = false; possible = tt; recorded = refl; next = f.harts (suc n) h.0; does = e.does; after = refl }) (moved s.harts (f.harts (suc n)) h e.others)
-  step_on n s (kind.Fence h pc) met at e =
       let m = e.moves in
+      with_record image t log f labelled n (kind.Alu h pc) (step.Plain h) s (flat_state_after s (step.Plain h) (f.harts (suc n) h.0)) at refl met.runs
+      (record { in_range = m.in_range; need = needed.Alu; succeeds = false; possible = tt; recorded = refl; next = f.harts (suc n) h.0; does = m.does; after = refl }) (moved s.harts (f.harts (suc n)) h m.others)
+  step_on n s (kind.Fence h pc) met at e =
+      let m = e.next.moves in
       with_record image t log f labelled n (kind.Fence h pc) (step.Plain h) s (flat_state_after s (step.Plain h) (f.harts (suc n) h.0)) at refl met.runs
       (record { in_range = m.in_range; need = needed.Fence e.waits; succeeds = false; possible = tt; recorded = refl; next = f.harts (suc n) h.0; does = m.does; after = refl }) (moved s.harts (f.harts (suc n)) h m.others)
   step_on n s (kind.Hint h pc slot) met at e =
-      let m = e.moves in
+      let m = e.next.moves in
       with_record image t log f labelled n (kind.Hint h pc slot) (step.Plain h) s (flat_state_after s (step.Plain h) (f.harts (suc n) h.0)) at refl met.runs
       (record { in_range = m.in_range; need = needed.Hint e.hint e.address; succeeds = false; possible = tt; recorded = refl; next = f.harts (suc n) h.0; does = m.does; after = refl }) (moved s.harts (f.harts (suc n)) h m.others)
   step_on n s (kind.Put h pc b) met at e =
+      let m = e.moves in
       with_record image t log f labelled n (kind.Put h pc b) (step.Byte h b) s (flat_state_after s (step.Byte h b) (f.harts (suc n) h.0)) at refl met.runs
-      (record { in_range = e.in_range; need = needed.Put b; succeeds = false; possible = tt; recorded = refl; next = f.harts (suc n) h.0; does = e.does; after = refl }) (moved s.harts (f.harts (suc n)) h e.others)
+      (record { in_range = m.in_range; need = needed.Put b; succeeds = false; possible = tt; recorded = refl; next = f.harts (suc n) h.0; does = m.does; after = refl }) (moved s.harts (f.harts (suc n)) h m.others)
   step_on n s (kind.Stop h pc q) met at e =
+      let m = e.moves in
       with_record image t log f labelled n (kind.Stop h pc q) (step.Stopped h q) s (flat_state_after s (step.Stopped h q) (f.harts (suc n) h.0)) at refl met.runs
-      (record { in_range = e.in_range; need = needed.Stop q; succeeds = false; possible = tt; recorded = refl; next = f.harts (suc n) h.0; does = e.does; after = refl }) (moved s.harts (f.harts (suc n)) h e.others)
+      (record { in_range = m.in_range; need = needed.Stop q; succeeds = false; possible = tt; recorded = refl; next = f.harts (suc n) h.0; does = m.does; after = refl }) (moved s.harts (f.harts (suc n)) h m.others)
   step_on n s (kind.Load a level) met at e = load_step image t log f labelled n s a level met at e.0 e.1
   step_on n s (kind.Store a) met at e =
       by_access image t log f labelled n s (kind.Store a) a met at refl e.0 (can_store s a.hart.0 _ e.0.need e.0.content e.0.succeeds (unseen a) e.0.is_offered e.1)

@@ -50,7 +50,7 @@ module _ (image : ImageView) (t : Topology) (log : List Event) (f : IsAdmissible
       let e = replays image t log f i (kind.Load b lev) at in
       absurd (loads e.1 (ap (λ x. is_of_memory x.op) same ∙ lock))
     where
-      loads : IsLoad b → is_of_memory b.op ≡ false → ⊥
+      loads : IsLoad b lev → is_of_memory b.op ≡ false → ⊥
       loads (inl load) lock_op = let k : true ≡ false = ap is_of_memory (sym load.0) ∙ lock_op in cc
       loads (inr reserve) lock_op = let k : true ≡ false = ap is_of_memory (sym reserve.0) ∙ lock_op in cc
   server i (kind.Store b) r at makes lock =

@@ -18,7 +18,7 @@ use Rattle.dash_event.specs.declared.event.Kind.{Kind}
 use Rattle.dash_event.specs.declared.event.Kind.TheVariants as kind
 use Rattle.dash_event.specs.Offered.{no_label, acquire_label, release_label}
 use Rattle.dash_model.specs.Log.{IsEventAt}
-use Rattle.dash_model.specs.Replay.{Harts, Moves, Accesses, Replays, IsReplay}
+use Rattle.dash_model.specs.Replay.{Harts, MovesAt, Accesses, Replays, IsReplay}
 use Rattle.trace_merge.specs.WrittenLogs.{message_image, message_store, flag_release, flag_acquire, message_load, message_log}
 use Rattle.trace_merge.proofs.Written.{hart_by}
 use Rattle.trace_merge.proofs.MessageCode.{skip, write, release, acquire, again, read, skip_found, write_found, release_found, acquire_found, again_found, read_found, write_need, release_need, acquire_need, read_need}
@@ -90,12 +90,15 @@ module _ (t : Topology) (s : IsSimple 2 1 8 t) where
   reader_others : (i j n g : ℕ) → g ≢ 1 → (if g == 0 then writer n else (if g == 1 then reader j else opening_hart message_image t g)) ≡ (if g == 0 then writer n else (if g == 1 then reader i else opening_hart message_image t g))
   reader_others i j n g differ = ap (λ x. if g == 0 then writer n else x) (hart_by 1 g differ (reader j) (reader i) (opening_hart message_image t g))
 
-  writer_skips : Moves message_image t (harts 0) (harts 1) hart_0 needed.Alu 0
+  writer_skips : MovesAt message_image t (harts 0) (harts 1) hart_0 4096 needed.Alu
   unfolding skip
   writer_skips = record {
-    in_range = in_range 0 (omega arith);
-    does = record { goes = ap (nat_lt 0) s.budget_is; found = This skip; is_found = skip_found; needs = refl; after = refl };
-    others = writer_others 0 1 0;
+    moves = record {
+      in_range = in_range 0 (omega arith);
+      does = record { goes = ap (nat_lt 0) s.budget_is; found = This skip; is_found = skip_found; needs = refl; after = refl };
+      others = writer_others 0 1 0;
+    };
+    pc_is = refl;
   }
 
   writes : Accesses message_image t (harts 1) (harts 2) message_store
@@ -126,12 +129,15 @@ module _ (t : Topology) (s : IsSimple 2 1 8 t) where
     is_offered = refl;
   }
 
-  reader_skips : Moves message_image t (harts 4) (harts 5) hart_1 needed.Alu 0
+  reader_skips : MovesAt message_image t (harts 4) (harts 5) hart_1 4096 needed.Alu
   unfolding skip
   reader_skips = record {
-    in_range = in_range 1 (omega arith);
-    does = record { goes = ap (nat_lt 0) s.budget_is; found = This skip; is_found = skip_found; needs = refl; after = refl };
-    others = reader_others 0 1 3;
+    moves = record {
+      in_range = in_range 1 (omega arith);
+      does = record { goes = ap (nat_lt 0) s.budget_is; found = This skip; is_found = skip_found; needs = refl; after = refl };
+      others = reader_others 0 1 3;
+    };
+    pc_is = refl;
   }
 
   acquires : Accesses message_image t (harts 5) (harts 6) flag_acquire
@@ -148,12 +154,15 @@ module _ (t : Topology) (s : IsSimple 2 1 8 t) where
     is_offered = refl;
   }
 
-  reader_goes_on : Moves message_image t (harts 6) (harts 7) hart_1 needed.Alu 0
+  reader_goes_on : MovesAt message_image t (harts 6) (harts 7) hart_1 4112 needed.Alu
   unfolding skip acquire again
   reader_goes_on = record {
-    in_range = in_range 1 (omega arith);
-    does = record { goes = ap (nat_lt 2) s.budget_is; found = This again; is_found = again_found; needs = refl; after = refl };
-    others = reader_others 2 3 3;
+    moves = record {
+      in_range = in_range 1 (omega arith);
+      does = record { goes = ap (nat_lt 2) s.budget_is; found = This again; is_found = again_found; needs = refl; after = refl };
+      others = reader_others 2 3 3;
+    };
+    pc_is = refl;
   }
 
   reads : Accesses message_image t (harts 7) (harts 8) message_load
@@ -182,11 +191,11 @@ module _ (t : Topology) (s : IsSimple 2 1 8 t) where
   moves (suc (suc (suc (suc zero)))) k at =
       subst (λ x. Replays message_image t (harts 4) x (harts 5)) (let e : kind.Alu hart_1 4096 ≡ k = cc in e) reader_skips
   moves (suc (suc (suc (suc (suc zero))))) k at =
-      subst (λ x. Replays message_image t (harts 5) x (harts 6)) (let e : kind.Load flag_acquire 1 ≡ k = cc in e) (acquires, inr (refl, record { version = 1; is = refl }))
+      subst (λ x. Replays message_image t (harts 5) x (harts 6)) (let e : kind.Load flag_acquire 1 ≡ k = cc in e) (acquires, inr (refl, record { version = 1; is = refl; in_caches = inl refl }))
   moves (suc (suc (suc (suc (suc (suc zero)))))) k at =
       subst (λ x. Replays message_image t (harts 6) x (harts 7)) (let e : kind.Alu hart_1 4112 ≡ k = cc in e) reader_goes_on
   moves (suc (suc (suc (suc (suc (suc (suc zero))))))) k at =
-      subst (λ x. Replays message_image t (harts 7) x (harts 8)) (let e : kind.Load message_load 1 ≡ k = cc in e) (reads, inl (refl, inl (record { version = 1; is = refl })))
+      subst (λ x. Replays message_image t (harts 7) x (harts 8)) (let e : kind.Load message_load 1 ≡ k = cc in e) (reads, inl (refl, inl (record { version = 1; is = refl; in_caches = inl refl })))
   moves (suc (suc (suc (suc (suc (suc (suc (suc i)))))))) k at = absurd cc
 
   pub replay : IsReplay message_image t message_log harts

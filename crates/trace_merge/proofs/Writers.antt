@@ -79,7 +79,7 @@ module _ (image : ImageView) (t : Topology) (log : List Event) (f : IsAdmissible
   writer i (kind.Load b lev) r value at makes memory written =
       let same : unseen b ≡ r = cc in
       let e = replays image t log f i (kind.Load b lev) at in
-      let none : b.written ≡ None = load_writes_nothing b e.1 (shape_of image t log f (f.harts i) (f.harts (suc i)) b e.0) in
+      let none : b.written ≡ None = load_writes_nothing b lev e.1 (shape_of image t log f (f.harts i) (f.harts (suc i)) b e.0) in
       absurd (let no : None ≡ Some value = sym none ∙ ap (λ z. z.written) same ∙ written in cc)
   writer i (kind.ScFail b) r value at makes memory written =
       let same : unseen b ≡ r = cc in
