@@ -1,8 +1,9 @@
 //! Tests with a log of each kind that shows something.
 
 use crate::{accesses, console};
-use dash_base::{ClusterId, HartId, Labels, LineId, Mask, WordAddr};
+use dash_base::{ClusterId, HartId, Labels, LineId, Mask, OutOfMemory, WordAddr};
 use dash_event::{Access, Event, Kind, Op, Seen};
+use std::alloc::Global;
 use std::test::Fail;
 
 const HART: HartId = HartId(0);
@@ -70,16 +71,26 @@ fn kinds() -> [Kind; 10] {
     ]
 }
 
+/// A log of so many turns, with one event of each kind in a turn.
+fn log_of(alloc: Global, turns: u32) -> Result<Vec<Event>, OutOfMemory> {
+    let mut log: Vec<Event> = Vec::new(alloc);
+    let mut stamp: u64 = 0;
+    for _ in 0..turns {
+        for kind in kinds() {
+            stamp = stamp.saturating_add(1);
+            log.push(Event {
+                stamp,
+                cluster: ClusterId(0),
+                kind,
+            })?;
+        }
+    }
+    Ok(log)
+}
+
 #[test]
 fn a_log_shows_its_accesses_and_its_console_in_order(rt: HostRuntime) -> Result<(), Fail> {
-    let mut log: Vec<Event> = Vec::new(rt.alloc());
-    for (stamp, kind) in (1..).zip(kinds()) {
-        log.push(Event {
-            stamp,
-            cluster: ClusterId(0),
-            kind,
-        })?;
-    }
+    let log = log_of(rt.alloc(), 1)?;
     let shown = accesses(rt.alloc(), &log)?;
     let numbers: Vec<u32> = shown
         .iter()
@@ -88,5 +99,24 @@ fn a_log_shows_its_accesses_and_its_console_in_order(rt: HostRuntime) -> Result<
     assert_eq!(rt; numbers.as_slice(), &[1, 3, 4, 5, 7, 9][..]);
     assert_eq!(rt; shown[3], access(5, Op::Cond, None, None));
     assert_eq!(rt; console(rt.alloc(), &log)?.as_slice(), &b"ok"[..]);
+    Ok(())
+}
+
+#[test]
+fn a_log_of_three_hundred_events_shows_each_of_them(rt: HostRuntime) -> Result<(), Fail> {
+    let log = log_of(rt.alloc(), 30)?;
+    assert_eq!(rt; log.len(), 300);
+    let numbers: Vec<u32> = accesses(rt.alloc(), &log)?
+        .iter()
+        .map(|access| access.number)
+        .collect(rt.alloc())?;
+    let mut wanted: Vec<u32> = Vec::new(rt.alloc());
+    let mut text: Vec<u8> = Vec::new(rt.alloc());
+    for _ in 0..30 {
+        wanted.extend_from_slice(&[1, 3, 4, 5, 7, 9])?;
+        text.extend_from_slice(b"ok")?;
+    }
+    assert_eq!(rt; numbers, wanted);
+    assert_eq!(rt; console(rt.alloc(), &log)?, text);
     Ok(())
 }
