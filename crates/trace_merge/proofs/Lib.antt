@@ -1,4 +1,5 @@
 pub mod Places
+pub mod Shown
 pub mod Order
 pub mod Released
 pub mod Offers

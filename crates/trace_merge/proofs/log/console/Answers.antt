@@ -1,0 +1,10 @@
+use Rattle.dash_event.specs.Records.{bytes_in}
+use Rattle.trace_merge.proofs.Shown.{one_more, all_of}
+use Rattle.trace_merge.proofs.log.console.Goals as goal
+
+pub loop-event-preserved : goal.loop-event-preserved
+loop-event-preserved c =
+    one_more (λ e. bytes_in e.kind) c.args.log.now c.loop-event.event-index c.event-item.result _ _ c.loop-event-test.true c.event-item.is c.loop-event.invariant c.in_ok-push_byte.ensures
+
+pub returns : goal.returns
+returns c = all_of (λ e. bytes_in e.kind) c.args.log.now c.loop-event.event-index _ c.loop-event-test.false c.loop-event.invariant
