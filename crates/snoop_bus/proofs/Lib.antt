@@ -10,4 +10,5 @@ pub mod Steps
 pub mod Loops
 pub mod HartReads
 pub mod OnBus
+pub mod Lent
 pub mod LawsOffered

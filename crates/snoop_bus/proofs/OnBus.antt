@@ -1,9 +1,7 @@
 -- The steps of a bus, from what its calls know of it as a value.
 use Rattle.std.proofs.Common.{◌≡◌, ◌≢◌, ℕ, ◌<◌, ◌≤◌, Bool, true, false, cond, List, length, get_or, set, replicate, Option, Some, None, option_map, refl, sym, ap, ◌∙◌, arith, subst, length-set, ◌%◌, zero, suc}
 use Rattle.std.specs.Prelude.{◌==◌, MatchOption, IsSome}
-use Rattle.std.proofs.lemmas.List.{get_or-set_same, get_or-set_other, get_or_default, get_or-replicate, length-replicate, with_items_is}
-use Rattle.std.specs.Prelude.{Vec}
-use Rattle.std.specs.Vec.{with_items}
+use Rattle.std.proofs.lemmas.List.{get_or-set_same, get_or-set_other, get_or_default, get_or-replicate, length-replicate}
 use Rattle.std.proofs.lemmas.Bool.Decides.{nat_tests}
 use Rattle.dash_base.specs.declared.line.Line.{Line}
 use Rattle.dash_base.specs.declared.id.LineId.{LineId}
@@ -12,7 +10,7 @@ use Rattle.cache_array.proofs.LawsOffered.{copy_at-empty_array, lines-empty_arra
 use Rattle.cache_levels.specs.View.{in_l1, IsPartOfL2}
 use Rattle.cache_levels.proofs.LawsOffered.{l2-empty_levels, l1_lines-empty_levels, in_l1-empty_levels, part-empty_levels}
 use Rattle.snoop_bus.specs.Caches.{CachesView, owns, no_caches}
-use Rattle.snoop_bus.specs.Holding.{Holding, holders_in, owner_in, copy_in, joined_by, owned_by}
+use Rattle.snoop_bus.specs.Holding.{holders_in, owner_in, copy_in, joined_by, owned_by}
 use Rattle.snoop_bus.specs.View.{BusView, harts, nobody, all_but, HasHartRoom, IsHartOther, empty_bus}
 use Rattle.snoop_bus.specs.Shared.{hart_copy, gathered, gathered_holders, gathered_owner, gathered_copy, first_l1_lines, first_l2_lines, bus_of, IsSpread, IsHartOf, AreOneMap}
 use Rattle.snoop_bus.specs.Changes.{EachBecomes, HasRoomAt, joined, taken}
@@ -172,11 +170,3 @@ fresh_bus n l1 l2 some =
 pub some_of : (o : Option Line) → o ≢ None → IsSome o
 some_of None apart = absurd (apart refl)
 some_of (Some c) apart = refl
-
--- the caches of a bus after a call that was lent all of them, where it made a step of them
-pub lent_step : {Z : Type 0} (v : Vec CachesView Z) (lent new : List CachesView) (f : List CachesView → ℕ → CachesView → CachesView) (p : ℕ → Bool) (line : ℕ) (o : Option Holding) → lent ≡ v.items → EachBecomes (f lent) lent new
-    → (EachBecomes (f v.items) v.items new → Step v.items new p line o) → Step v.items (with_items v new).items p line o
-lent_step v lent new f p line o is becomes step =
-    let there = subst (λ (old : List CachesView). EachBecomes (f old) old new) is becomes in
-    let whole = with_items_is v new (omega (arith, there.as_many)) in
-    subst (λ (xs : List CachesView). Step v.items xs p line o) (sym whole) (step there)
