@@ -1,6 +1,6 @@
 -- The key: what a hart stored is committed before a conflicting access of another hart, and that access sees it; and conflicting writes commit in the order in which they stand.
-use Rattle.std.proofs.Common.{◌≡◌, ◌≢◌, ◌⊎◌, inl, inr, ◌<◌, ◌≤◌, ℕ, suc, true, false, List, [], ◌∷◌, ◌++◌, None, refl, sym, ◌∙◌, ap, subst, arith}
-use Rattle.std.specs.Prelude.{IsSome, is_some, slice_get}
+use Rattle.std.proofs.Common.{◌≡◌, ◌≢◌, ◌⊎◌, inl, inr, ◌<◌, ◌≤◌, ℕ, suc, true, false, List, [], ◌∷◌, ◌++◌, refl, sym, ◌∙◌, ap, subst, arith}
+use Rattle.std.specs.Prelude.{is_some, slice_get}
 use Rattle.dash_base.specs.Words.{has_byte}
 use Rattle.dash_base.specs.declared.id.ClusterId.{ClusterId}
 use Rattle.dash_base.specs.declared.id.HartId.{HartId}
@@ -22,25 +22,15 @@ use Rattle.flat_model.specs.Race.{IsRaceFree}
 use Rattle.dash_model.specs.Log.{IsEventAt, IsShown, IsRecordEvent}
 use Rattle.dash_model.specs.Coherent.{IsCommittedBefore}
 use Rattle.dash_model.specs.Release.{IsReleaseEvent}
-use Rattle.dash_model.specs.Replay.{Harts, Accesses, IsLoad}
 use Rattle.dash_model.specs.Admissible.{IsAdmissible}
 use Rattle.trace_merge.proofs.Places.{upto_more, made_by}
-use Rattle.trace_merge.proofs.Offers.{HasShape, has_shape}
 use Rattle.trace_merge.proofs.Released.{steps, IsReleasedSince, released}
-use Rattle.trace_merge.proofs.Facts.{one_event, three, replays, plain_store}
+use Rattle.trace_merge.proofs.Facts.{one_event, three, plain_store}
+use Rattle.trace_merge.proofs.AccessEvents.{HasRecord, a_read, a_store, a_rmw, a_grant, a_free, has_record}
 use Rattle.trace_merge.proofs.Commits.{committed_or_not, committed_later, one_commit, after_store, commit_event}
 
 pub same_hart : (g h : HartId) → g.0 ≡ h.0 → g ≡ h
 same_hart g h e = λ i. record { 0 = e i }
-
--- a load writes nothing
-pub load_writes_nothing : (a : Access) (level : ℕ) → IsLoad a level → HasShape a.op (unseen a) → a.written ≡ None
-load_writes_nothing a level (inl load) shape = (subst (λ o. HasShape o (unseen a)) load.0 shape).0
-load_writes_nothing a level (inr reserve) shape = (subst (λ o. HasShape o (unseen a)) reserve.0 shape).0
-
-pub load_reads : (a : Access) (level : ℕ) → IsLoad a level → HasShape a.op (unseen a) → IsSome a.read
-load_reads a level (inl load) shape = (subst (λ o. HasShape o (unseen a)) load.0 shape).1
-load_reads a level (inr reserve) shape = (subst (λ o. HasShape o (unseen a)) reserve.0 shape).1
 
 module _ (image : ImageView) (t : Topology) (log : List Event) (f : IsAdmissible image t log) where
   -- a release of a hart after position i and before position n
@@ -49,9 +39,6 @@ module _ (image : ImageView) (t : Topology) (log : List Event) (f : IsAdmissible
     event : IsReleaseEvent image log at hart
     after : i < at
     before : at < n
-
-  pub shape_of : (old new : Harts) (a : Access) → Accesses image t old new a → HasShape a.op (unseen a)
-  shape_of old new a s = has_shape a.hart.0 _ s.need s.content s.succeeds (unseen a) s.is_offered
 
   later_event : (i q : ℕ) (k k' : Kind) → IsEventAt log i k → IsEventAt log q k' → i ≤ q → (k ≡ k' → ⊥) → i < q
   later_event i q k k' at_i at_q from differ = by_order (three i q)
@@ -80,43 +67,23 @@ module _ (image : ImageView) (t : Topology) (log : List Event) (f : IsAdmissible
           absurd (let e : kind.Store a ≡ kind.LockSend b.hart (Unlock b.hart b.number b.word) = one_event log i _ _ at_i (subst (λ m. IsEventAt log m (kind.LockSend b.hart (Unlock b.hart b.number b.word))) (sym same) at_p) in cc)
       later_by p at_p quiet (inr (inr gt)) = absurd (quiet i (step.Access (unseen a)) (record { kind = kind.Store a; at = at_i; is = refl }) (sym hart) gt after)
 
-  point_by : (i q n : ℕ) (a r : Access) (k : Kind) → IsEventAt log i (kind.Store a) → IsEventAt log q k → records_in k ≡ step.Access r ∷ [] → i ≤ q → q < n
-      → r.hart ≡ a.hart → IsRelease r → IsPoint i n a.hart
-  point_by i q n a r (kind.Rmw b l v) at_i at_q makes from before hart release =
-      let same : unseen b ≡ r = cc in
-      let b_hart : b.hart ≡ a.hart = ap (λ x. x.hart) same ∙ hart in
-      let b_rl : b.labels.rl ≡ true = ap (λ x. x.labels.rl) same ∙ release.release_bit in
-      record {
-        at = q;
-        event = record { kind = kind.Rmw b l v; at = at_q; is = (b_hart, b_rl) };
-        after = later_event i q (kind.Store a) (kind.Rmw b l v) at_i at_q from (λ e. cc);
-        before = before;
-      }
-  point_by i q n a r (kind.Free g b) at_i at_q makes from before hart release =
-      let same : unseen b ≡ r = cc in
+  point_by : (i q n : ℕ) (a r : Access) → IsEventAt log i (kind.Store a) → HasRecord image t log f q r → i ≤ q → q < n → r.hart ≡ a.hart → IsRelease r → IsPoint i n a.hart
+  point_by i q n a r at_i (a_rmw b l v at_q same memory) from before hart release = record {
+    at = q;
+    event = record { kind = kind.Rmw b l v; at = at_q; is = (ap (λ x. x.hart) same ∙ hart, ap (λ x. x.labels.rl) same ∙ release.release_bit) };
+    after = later_event i q (kind.Store a) (kind.Rmw b l v) at_i at_q from (λ e. cc);
+    before = before;
+  }
+  point_by i q n a r at_i (a_free g b at_q same lock) from before hart release =
       sent_point i q n g a b at_i at_q (later_event i q (kind.Store a) (kind.Free g b) at_i at_q from (λ e. cc)) before (ap (λ x. x.hart) same ∙ hart)
-  point_by i q n a r (kind.Load b lev) at_i at_q makes from before hart release =
-      let same : unseen b ≡ r = cc in
-      let e = replays image t log f q (kind.Load b lev) at_q in
-      let none : b.written ≡ None = load_writes_nothing b lev e.1 (shape_of (f.harts q) (f.harts (suc q)) b e.0) in
-      absurd (let no : false ≡ true = ap is_some (sym none) ∙ ap (λ x. is_some x.written) same ∙ release.writes in cc)
-  point_by i q n a r (kind.Store b) at_i at_q makes from before hart release =
-      let same : unseen b ≡ r = cc in
+  point_by i q n a r at_i (a_store b at_q same memory) from before hart release =
       let plain = plain_store image t log f q b at_q in
       absurd (let no : false ≡ true = sym plain.ordinary.no_release_bit ∙ ap (λ x. x.labels.rl) same ∙ release.release_bit in cc)
-  point_by i q n a r (kind.ScFail b) at_i at_q makes from before hart release =
-      let same : unseen b ≡ r = cc in
-      let e = replays image t log f q (kind.ScFail b) at_q in
-      absurd (let no : false ≡ true = ap is_some (sym e.2) ∙ ap (λ x. is_some x.written) same ∙ release.writes in cc)
-  point_by i q n a r (kind.Grant b) at_i at_q makes from before hart release =
-      let same : unseen b ≡ r = cc in
-      let e = replays image t log f q (kind.Grant b) at_q in
-      let no_rl : b.labels.rl ≡ false = subst (λ o. HasShape o (unseen b)) e.1 (shape_of (f.harts q) (f.harts (suc q)) b e.0) in
-      absurd (let no : false ≡ true = sym no_rl ∙ ap (λ x. x.labels.rl) same ∙ release.release_bit in cc)
-  point_by i q n a r k at_i at_q makes from before hart release = absurd cc
+  point_by i q n a r at_i (a_read none memory) from before hart release = absurd (let no : false ≡ true = ap is_some (sym none) ∙ release.writes in cc)
+  point_by i q n a r at_i (a_grant b at_q same lock no_release) from before hart release = absurd (let no : false ≡ true = sym no_release ∙ release.release_bit in cc)
 
   point : (i n : ℕ) (a : Access) → IsEventAt log i (kind.Store a) → IsReleasedSince log i n a.hart → IsPoint i n a.hart
-  point i n a at_i r = point_by i r.at n a r.release r.kind at_i r.is_at r.makes r.from r.before r.of_hart r.is_release
+  point i n a at_i r = point_by i r.at n a r.release at_i (has_record image t log f r.at r.kind r.release r.is_at r.makes) r.from r.before r.of_hart r.is_release
 
   committed_at_point : (i n : ℕ) (a : Access) → IsEventAt log i (kind.Store a) → (p : IsPoint i n a.hart) → IsCommittedBefore log a p.at
   committed_at_point i n a at_i p = f.stores_are_committed p.at a.hart i a p.event at_i refl p.after

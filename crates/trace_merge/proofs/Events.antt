@@ -25,7 +25,7 @@ use Rattle.hart_core.proofs.LawsOffered.{any_answer}
 use Rattle.dash_event.specs.Offered.{bytes_under}
 use Rattle.flat_model.specs.State.{FlatState, opening_state}
 use Rattle.flat_model.specs.Step.{record_of, flat_state_after, IsFlatStep}
-use Rattle.dash_event.specs.Effects.{hart_of, is_of_memory, reply}
+use Rattle.dash_event.specs.Effects.{hart_of, reply}
 use Rattle.flat_model.specs.Run.{RunsTo}
 use Rattle.flat_model.specs.Race.{IsRaceFree, IsProperlyLabelled}
 use Rattle.flat_model.proofs.LawsOffered.{one_more_step, memory_at_end, locks_at_end}
@@ -37,7 +37,7 @@ use Rattle.dash_model.specs.Admissible.{IsAdmissible}
 use Rattle.trace_merge.proofs.Places.{upto_more, made_by}
 use Rattle.trace_merge.proofs.Offers.{HasShape}
 use Rattle.trace_merge.proofs.Released.{steps}
-use Rattle.trace_merge.proofs.Before.{shape_of, load_reads}
+use Rattle.trace_merge.proofs.AccessEvents.{IsRead, is_read, rmw_of_memory, shape_of}
 use Rattle.trace_merge.proofs.Among.{rmw_shown, IsReader}
 use Rattle.trace_merge.proofs.Writers.{same_under, AreRaceFree}
 use Rattle.trace_merge.proofs.Bytes.{line_agrees, own_agrees}
@@ -53,13 +53,9 @@ moved_by old new hart g others false e = sym (others g (λ same. (let t : (g == 
 pub moved : (old new : Harts) (hart : HartId) → ((i : ℕ) → i ≢ hart.0 → new i ≡ old i) → (λ (g : ℕ). if g == hart.0 then new hart.0 else old g) ≡ new
 moved old new hart others = λ i g. moved_by old new hart g others (g == hart.0) refl i
 
-load_kind : (a : Access) (level : ℕ) → IsLoad a level → (is_load a.op ≡ true) × (is_of_memory a.op ≡ true)
-load_kind a level (inl load) = (ap is_load load.0, ap is_of_memory load.0)
-load_kind a level (inr reserve) = (ap is_load reserve.0, ap is_of_memory reserve.0)
-
-rmw_kind : (a : Access) → IsRmw a → is_of_memory a.op ≡ true
-rmw_kind a (inl amo) = ap is_of_memory amo
-rmw_kind a (inr cond) = ap is_of_memory cond.0
+load_kind : (a : Access) (level : ℕ) → IsLoad a level → is_load a.op ≡ true
+load_kind a level (inl load) = ap is_load load.0
+load_kind a level (inr reserve) = ap is_load reserve.0
 
 module _ (image : ImageView) (t : Topology) (log : List Event) (f : IsAdmissible image t log) (labelled : IsProperlyLabelled image t) where
   -- the records of the first n events lead to a state with the harts of the replay
@@ -155,20 +151,17 @@ module _ (image : ImageView) (t : Topology) (log : List Event) (f : IsAdmissible
       own.read ∙ ap Some (sym bytes)
 
   pub load_step : (n : ℕ) (s : FlatState) (a : Access) (level : ℕ) → IsMet n s → IsEventAt log n (kind.Load a level) → Accesses image t s.harts (f.harts (suc n)) a → IsLoad a level → IsRunTo (suc n)
-  load_step n s a level met at e load = by_access n s (kind.Load a level) a met at refl e (can_load s a.hart.0 _ e.need e.content e.succeeds (unseen a) e.is_offered kinds.0 (by_shown load))
+  load_step n s a level met at e load = by_access n s (kind.Load a level) a met at refl e (can_load s a.hart.0 _ e.need e.content e.succeeds (unseen a) e.is_offered (load_kind a level load) (by_shown load))
     where
-      kinds : (is_load a.op ≡ true) × (is_of_memory a.op ≡ true)
-      kinds = load_kind a level load
-
-      some : IsSome a.read
-      some = load_reads a level load (shape_of image t log f s.harts (f.harts (suc n)) a e)
+      read : IsRead a
+      read = is_read a level load (shape_of image t log f s.harts (f.harts (suc n)) a e)
 
       by_version : IsShownVersion a level → a.read ≡ Some (bytes_under a.mask (s.memory a.word.0))
       by_version v =
-          let c = can_do_other s a.hart.0 _ e.need e.content e.succeeds (unseen a) e.is_offered kinds.1 in
+          let c = can_do_other s a.hart.0 _ e.need e.content e.succeeds (unseen a) e.is_offered read.of_memory in
           let o = other n s a met e c in
           reads_line n s a c.access v.version met
-          (record { shown = record { event = record { kind = kind.Load a level; at = at; is = refl }; seen = v.is }; race_free = o.race_free; hart = c.same_hart; word = c.same_word }) c.same_mask some
+          (record { shown = record { event = record { kind = kind.Load a level; at = at; is = refl }; seen = v.is }; race_free = o.race_free; hart = c.same_hart; word = c.same_word }) c.same_mask read.reads
 
       by_store : IsShownStore a level → a.read ≡ Some (bytes_under a.mask (s.memory a.word.0))
       by_store k = reads_own n s a k.number met (f.coherent.own_is_newest n a level k.number at k.is)
@@ -183,7 +176,7 @@ module _ (image : ImageView) (t : Topology) (log : List Event) (f : IsAdmissible
   rmw_step n s a line version met at e is = by_access n s (kind.Rmw a line version) a met at refl e (by_kind is)
     where
       c : CanDoOther s a.hart.0 ((s.harts a.hart.0).retired + 1) e.need (unseen a)
-      c = can_do_other s a.hart.0 _ e.need e.content e.succeeds (unseen a) e.is_offered (rmw_kind a is)
+      c = can_do_other s a.hart.0 _ e.need e.content e.succeeds (unseen a) e.is_offered (rmw_of_memory a is)
 
       o : IsOther n s a c.access
       o = other n s a met e c

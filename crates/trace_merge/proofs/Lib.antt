@@ -4,6 +4,7 @@ pub mod Order
 pub mod Released
 pub mod Offers
 pub mod Facts
+pub mod AccessEvents
 pub mod Commits
 pub mod Before
 pub mod Among

@@ -1,5 +1,5 @@
 -- The lock words of the sequential machine are those that a log's accesses of them read.
-use Rattle.std.proofs.Common.{◌≡◌, ◌⊎◌, inl, inr, ◌<◌, ℕ, true, false, List, [], ◌∷◌, length, Option, refl, sym, ◌∙◌, ap, subst, arith}
+use Rattle.std.proofs.Common.{◌≡◌, ◌⊎◌, inl, inr, ◌<◌, ℕ, false, List, [], ◌∷◌, length, Option, refl, sym, ◌∙◌, ap, subst, arith}
 use Rattle.dash_base.specs.declared.topology.Topology.{Topology}
 use Rattle.elf_load.specs.Image.{ImageView}
 use Rattle.dash_event.specs.Records.{unseen, records_in}
@@ -13,11 +13,11 @@ use Rattle.flat_model.specs.Order.{IsAccessAt}
 use Rattle.flat_model.specs.LastBefore.{IsLockAccess, IsLockBefore}
 use Rattle.dash_model.specs.Log.{IsEventAt}
 use Rattle.dash_model.specs.Coherent.{ServesLock, IsLockEvent, ReadsLock, reads_first, reads_last}
-use Rattle.dash_model.specs.Replay.{IsLoad, IsRmw}
 use Rattle.dash_model.specs.Admissible.{IsAdmissible}
 use Rattle.trace_merge.proofs.Places.{Origin, from_place, at_place, before_place}
 use Rattle.trace_merge.proofs.Released.{small_records, steps}
 use Rattle.trace_merge.proofs.Facts.{one_event, three, replays}
+use Rattle.trace_merge.proofs.AccessEvents.{HasRecord, a_read, a_store, a_rmw, a_grant, a_free, has_record}
 use Rattle.trace_merge.proofs.Writers.{same_word}
 
 served_makes : (k : Kind) (b : Access) → ServesLock k b → records_in k ≡ step.Access (unseen b) ∷ []
@@ -42,34 +42,15 @@ module _ (image : ImageView) (t : Topology) (log : List Event) (f : IsAdmissible
     is : unseen access ≡ r
     event : IsLockEvent log i access
 
+  server_by : (i : ℕ) (r : Access) → HasRecord image t log f i r → is_of_memory r.op ≡ false → IsServer i r
+  server_by i r (a_grant b at same _ _) lock = record { access = b; is = same; event = record { kind = kind.Grant b; at = at; is = refl } }
+  server_by i r (a_free g b at same _) lock = record { access = b; is = same; event = record { kind = kind.Free g b; at = at; is = refl } }
+  server_by i r (a_read none memory) lock = absurd cc
+  server_by i r (a_store b at same memory) lock = absurd cc
+  server_by i r (a_rmw b l v at same memory) lock = absurd cc
+
   server : (i : ℕ) (k : Kind) (r : Access) → IsEventAt log i k → records_in k ≡ step.Access r ∷ [] → is_of_memory r.op ≡ false → IsServer i r
-  server i (kind.Grant b) r at makes lock = record { access = b; is = cc; event = record { kind = kind.Grant b; at = at; is = refl } }
-  server i (kind.Free g b) r at makes lock = record { access = b; is = cc; event = record { kind = kind.Free g b; at = at; is = refl } }
-  server i (kind.Load b lev) r at makes lock =
-      let same : unseen b ≡ r = cc in
-      let e = replays image t log f i (kind.Load b lev) at in
-      absurd (loads e.1 (ap (λ x. is_of_memory x.op) same ∙ lock))
-    where
-      loads : IsLoad b lev → is_of_memory b.op ≡ false → ⊥
-      loads (inl load) lock_op = let k : true ≡ false = ap is_of_memory (sym load.0) ∙ lock_op in cc
-      loads (inr reserve) lock_op = let k : true ≡ false = ap is_of_memory (sym reserve.0) ∙ lock_op in cc
-  server i (kind.Store b) r at makes lock =
-      let same : unseen b ≡ r = cc in
-      let e = replays image t log f i (kind.Store b) at in
-      absurd (let no : true ≡ false = ap is_of_memory (sym e.1) ∙ ap (λ x. is_of_memory x.op) same ∙ lock in cc)
-  server i (kind.ScFail b) r at makes lock =
-      let same : unseen b ≡ r = cc in
-      let e = replays image t log f i (kind.ScFail b) at in
-      absurd (let no : true ≡ false = ap is_of_memory (sym e.1) ∙ ap (λ x. is_of_memory x.op) same ∙ lock in cc)
-  server i (kind.Rmw b l v) r at makes lock =
-      let same : unseen b ≡ r = cc in
-      let e = replays image t log f i (kind.Rmw b l v) at in
-      absurd (rmws e.1 (ap (λ x. is_of_memory x.op) same ∙ lock))
-    where
-      rmws : IsRmw b → is_of_memory b.op ≡ false → ⊥
-      rmws (inl amo) lock_op = let k : true ≡ false = ap is_of_memory (sym amo) ∙ lock_op in cc
-      rmws (inr cond) lock_op = let k : true ≡ false = ap is_of_memory (sym cond.0) ∙ lock_op in cc
-  server i k r at makes lock = absurd cc
+  server i k r at makes = server_by i r (has_record image t log f i k r at makes)
 
   place_of : (n j : ℕ) (b : Access) → IsLockEvent log j b → j < n → IsAccessAt (steps log n) (length (steps log j)) (unseen b)
   place_of n j b e before = at_place records_in small_records log j n e.kind (step.Access (unseen b)) e.at (served_makes e.kind b e.is) before

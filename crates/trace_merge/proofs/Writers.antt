@@ -1,5 +1,5 @@
 -- Which events write memory, and which of their commits a version of a line has.
-use Rattle.std.proofs.Common.{◌≡◌, ◌<◌, ◌≤◌, ℕ, suc, ◌+◌, Bool, true, false, List, [], ◌∷◌, Some, None, refl, sym, ◌∙◌, ap, subst, arith, eq-eqb}
+use Rattle.std.proofs.Common.{◌≡◌, ◌<◌, ◌≤◌, ℕ, ◌+◌, Bool, true, false, List, [], ◌∷◌, Some, refl, sym, ◌∙◌, ap, subst, arith, eq-eqb}
 use Rattle.std.specs.Prelude.{◌==◌, if◌then◌else◌}
 use Rattle.dash_base.specs.Words.{has_byte, byte_of_word, merged, merged_byte, word_of_bytes}
 use Rattle.dash_base.specs.declared.id.HartId.{HartId}
@@ -22,8 +22,10 @@ use Rattle.dash_model.specs.Log.{IsEventAt, Commits, commit_in, commits_before}
 use Rattle.dash_model.specs.LineContent.{committed, store_of}
 use Rattle.dash_model.specs.Admissible.{IsAdmissible}
 use Rattle.trace_merge.proofs.Released.{steps}
-use Rattle.trace_merge.proofs.Facts.{one_event, replays, store_found}
-use Rattle.trace_merge.proofs.Before.{load_writes_nothing, shape_of, IsWritten, by_store, by_rmw}
+use Rattle.trace_merge.proofs.Facts.{one_event, store_found}
+use Rattle.trace_merge.proofs.AccessEvents.{HasRecord, has_record}
+use Rattle.trace_merge.proofs.AccessEvents as kinds
+use Rattle.trace_merge.proofs.Before.{IsWritten, by_store, by_rmw}
 use Rattle.trace_merge.proofs.Among.{IsReader, IsAmong, store_among, rmw_among}
 use Rattle.trace_merge.proofs.Content.{IsCommitIn}
 
@@ -73,27 +75,15 @@ module _ (image : ImageView) (t : Topology) (log : List Event) (f : IsAdmissible
     pub is : unseen access ≡ r
     pub write : IsWrite i access
 
+  writer_by : (i : ℕ) (r : Access) (value : ℕ) → HasRecord image t log f i r → is_of_memory r.op ≡ true → r.written ≡ Some value → IsWriter i r
+  writer_by i r value (kinds.a_store b at same _) memory written = record { access = b; is = same; write = a_store at }
+  writer_by i r value (kinds.a_rmw b l v at same _) memory written = record { access = b; is = same; write = a_rmw l v at }
+  writer_by i r value (kinds.a_read none _) memory written = absurd cc
+  writer_by i r value (kinds.a_grant b at same lock _) memory written = absurd cc
+  writer_by i r value (kinds.a_free g b at same lock) memory written = absurd cc
+
   pub writer : (i : ℕ) (k : Kind) (r : Access) (value : ℕ) → IsEventAt log i k → records_in k ≡ step.Access r ∷ [] → is_of_memory r.op ≡ true → r.written ≡ Some value → IsWriter i r
-  writer i (kind.Store b) r value at makes memory written = record { access = b; is = cc; write = a_store at }
-  writer i (kind.Rmw b l v) r value at makes memory written = record { access = b; is = cc; write = a_rmw l v at }
-  writer i (kind.Load b lev) r value at makes memory written =
-      let same : unseen b ≡ r = cc in
-      let e = replays image t log f i (kind.Load b lev) at in
-      let none : b.written ≡ None = load_writes_nothing b lev e.1 (shape_of image t log f (f.harts i) (f.harts (suc i)) b e.0) in
-      absurd (let no : None ≡ Some value = sym none ∙ ap (λ z. z.written) same ∙ written in cc)
-  writer i (kind.ScFail b) r value at makes memory written =
-      let same : unseen b ≡ r = cc in
-      let e = replays image t log f i (kind.ScFail b) at in
-      absurd (let no : None ≡ Some value = sym e.2 ∙ ap (λ z. z.written) same ∙ written in cc)
-  writer i (kind.Grant b) r value at makes memory written =
-      let same : unseen b ≡ r = cc in
-      let e = replays image t log f i (kind.Grant b) at in
-      absurd (let no : false ≡ true = ap is_of_memory (sym e.1) ∙ ap (λ z. is_of_memory z.op) same ∙ memory in cc)
-  writer i (kind.Free g b) r value at makes memory written =
-      let same : unseen b ≡ r = cc in
-      let e = replays image t log f i (kind.Free g b) at in
-      absurd (let no : false ≡ true = ap is_of_memory (sym e.1) ∙ ap (λ z. is_of_memory z.op) same ∙ memory in cc)
-  writer i k r value at makes memory written = absurd cc
+  writer i k r value at makes = writer_by i r value (has_record image t log f i k r at makes)
 
   -- it writes the same bytes with or without what it was shown
   pub writes_as : (address x : ℕ) (a : Access) → WritesByte address x a → WritesByte address x (unseen a)
