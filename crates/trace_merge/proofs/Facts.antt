@@ -70,15 +70,7 @@ retired_on image t old new (kind.Rmw a l v) g r = moves_on image t old new a.har
 retired_on image t old new (kind.ScFail a) g r = moves_on image t old new a.hart _ _ g r.0.moves (same_or_not g a.hart.0)
 retired_on image t old new (kind.Grant a) g r = moves_on image t old new a.hart _ _ g r.0.moves (same_or_not g a.hart.0)
 retired_on image t old new (kind.Free f a) g r = moves_on image t old new a.hart _ _ g r.0.moves (same_or_not g a.hart.0)
-retired_on image t old new (kind.Commit h n l v) g r = stays_on old new g (r.stays g)
-retired_on image t old new (kind.LockSend h m) g r = stays_on old new g (r.stays g)
-retired_on image t old new (kind.BusRead h l) g r = stays_on old new g (r.stays g)
-retired_on image t old new (kind.BusOwn h l) g r = stays_on old new g (r.stays g)
-retired_on image t old new (kind.Evict h l) g r = stays_on old new g (r.stays g)
-retired_on image t old new (kind.Ask s h l o) g r = stays_on old new g (r.stays g)
-retired_on image t old new (kind.Again s l) g r = stays_on old new g (r.stays g)
-retired_on image t old new (kind.Install s h l) g r = stays_on old new g (r.stays g)
-retired_on image t old new (kind.Take f m) g r = stays_on old new g (r.stays g)
+retired_on image t old new k g r = stays_on old new g (r.stays g)
 
 small_stores : (hart : HartId) (number : ℕ) (k : Kind) → IsSmall (store_in hart number k)
 small_stores hart number (kind.Store a) = small_if ((a.hart.0 == hart.0) && (a.number == number)) a

@@ -54,15 +54,7 @@ module _ (image : ImageView) (t : Topology) (log : List Event) (f : IsAdmissible
       by_access image t log f labelled n s (kind.ScFail a) a met at refl e.0 (can_fail s a.hart.0 _ e.0.need e.0.content e.0.succeeds (unseen a) e.0.is_offered e.1 e.2)
   step_on n s (kind.Grant a) met at e = grant_step image t log f labelled n s a met at e.0 e.1
   step_on n s (kind.Free from a) met at e = free_step image t log f labelled n s from a met at e.0 e.1
-  step_on n s (kind.Commit h m l v) met at e = without_record image t log f labelled n (kind.Commit h m l v) s at refl met.runs (still s n e.stays)
-  step_on n s (kind.LockSend h m) met at e = without_record image t log f labelled n (kind.LockSend h m) s at refl met.runs (still s n e.stays)
-  step_on n s (kind.BusRead h l) met at e = without_record image t log f labelled n (kind.BusRead h l) s at refl met.runs (still s n e.stays)
-  step_on n s (kind.BusOwn h l) met at e = without_record image t log f labelled n (kind.BusOwn h l) s at refl met.runs (still s n e.stays)
-  step_on n s (kind.Evict h l) met at e = without_record image t log f labelled n (kind.Evict h l) s at refl met.runs (still s n e.stays)
-  step_on n s (kind.Ask i h l o) met at e = without_record image t log f labelled n (kind.Ask i h l o) s at refl met.runs (still s n e.stays)
-  step_on n s (kind.Again i l) met at e = without_record image t log f labelled n (kind.Again i l) s at refl met.runs (still s n e.stays)
-  step_on n s (kind.Install i h l) met at e = without_record image t log f labelled n (kind.Install i h l) s at refl met.runs (still s n e.stays)
-  step_on n s (kind.Take c m) met at e = without_record image t log f labelled n (kind.Take c m) s at refl met.runs (still s n e.stays)
+  step_on n s k met at e = without_record image t log f labelled n k s at refl met.runs (still s n e.stays)
 
   next_run : (n : ℕ) → n < length log → AreRunsTo image t log f labelled n → IsRunTo image t log f labelled (suc n)
   next_run n below before =
