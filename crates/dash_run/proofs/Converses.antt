@@ -1,4 +1,4 @@
--- Each cause has its status, but for want of memory.
+-- Each cause has its status, but for running out of memory.
 use Rattle.std.proofs.Common.{◌≡◌, ℕ, ◌<◌, ◌≤◌, ◌⊎◌, inl, inr, List, length, Option, Some, None, IfSome, IsSomeAnd, unwrap_or, refl, sym, ◌∙◌, ap, subst, arith}
 use Rattle.dash_base.specs.Topology.{simple_refusal}
 use Rattle.dash_base.specs.Outside.{Files, Printed, Rose, Call}

@@ -70,7 +70,7 @@ pub plain_complete : (image : ImageView) (t : Topology) (log : List Event) (fina
     → IsCompleteSequentialRun image t (records_of log) final
 plain_complete image t log final run = record {
   runs = driven_run image t _ (records_of log) final (logged_driven image t _ log final run.logged);
-  stands = run.stands;
+  stopped = run.stopped;
 }
 
 -- what happened has the access of its record, but for what it was shown
@@ -163,15 +163,15 @@ one_logged image t _ _ _ _ _ _ (steps {hs} {log} {s} h r new run does) (steps {h
 -- where no hart can go on, so many further turns only pass
 passes_on : (image : ImageView) (t : Topology) (turns : ℕ) (log : List Event) (s : FlatState) → IsLogged image t (driven.rotation (hart_count t) turns) log s
     → ((h : ℕ) → h < hart_count t → IsFlatStopped image t s h) → (more : ℕ) → IsLogged image t (driven.rotation (hart_count t) (turns + more)) log s
-passes_on image t turns log s run stands zero =
+passes_on image t turns log s run stopped zero =
     let none : turns ≡ turns + 0 = omega arith in subst (λ n. IsLogged image t (driven.rotation (hart_count t) n) log s) none run
-passes_on image t turns log s run stands (suc more) =
-    let before = passes_on image t turns log s run stands more in
+passes_on image t turns log s run stopped (suc more) =
+    let before = passes_on image t turns log s run stopped more in
     let turn : ℕ = (turns + more) % hart_count t in
     let inside : turn < hart_count t = mod-lt (turns + more) (some_harts t) in
     let one : turns + more + 1 ≡ turns + suc more = omega arith in
     subst (λ n. IsLogged image t (driven.rotation (hart_count t) n) log s) one
-    (subst (λ hs. IsLogged image t hs log s) (sym (rotation-more (hart_count t) (turns + more))) (passes turn before (stands turn inside)))
+    (subst (λ hs. IsLogged image t hs log s) (sym (rotation-more (hart_count t) (turns + more))) (passes turn before (stopped turn inside)))
 
 -- one number is another and so many more
 pub difference : (a b : ℕ) → ((k : ℕ) × (a + k ≡ b)) ⊎ ((k : ℕ) × (b + k ≡ a))
@@ -187,9 +187,9 @@ pub one_rotation_run : (image : ImageView) (t : Topology) (log log' : List Event
 one_rotation_run image t log log' final final' run run' = by_case (difference run.turns run'.turns) where
   by_case : ((k : ℕ) × (run.turns + k ≡ run'.turns)) ⊎ ((k : ℕ) × (run'.turns + k ≡ run.turns)) → (log ≡ log') × (final ≡ final')
   by_case (inl (k, is)) =
-      one_logged image t _ _ log log' final final' (passes_on image t run.turns log final run.logged run.stands k) run'.logged (ap (driven.rotation (hart_count t)) is)
+      one_logged image t _ _ log log' final final' (passes_on image t run.turns log final run.logged run.stopped k) run'.logged (ap (driven.rotation (hart_count t)) is)
   by_case (inr (k, is)) =
-      one_logged image t _ _ log log' final final' run.logged (passes_on image t run'.turns log' final' run'.logged run'.stands k) (ap (driven.rotation (hart_count t)) (sym is))
+      one_logged image t _ _ log log' final final' run.logged (passes_on image t run'.turns log' final' run'.logged run'.stopped k) (ap (driven.rotation (hart_count t)) (sym is))
 
 -- two topologies with the same keys are one: their bounds are facts with one proof
 pub same_topology : (a b : Topology) → a.clusters ≡ b.clusters → a.harts ≡ b.harts → a.budget ≡ b.budget → a.memory ≡ b.memory → a.locks ≡ b.locks → a.base ≡ b.base

@@ -154,7 +154,7 @@ ended_now image t m harts console log next idle inside enough run same = record 
   run = record {
     turns = run.turns;
     logged = run.logged;
-    stands = λ h here. run.passed h here (all_passed (hart_count t) next idle h inside here enough);
+    stopped = λ h here. run.passed h here (all_passed (hart_count t) next idle h inside here enough);
   };
   harts_are = same ∙ run.held.harts_are;
   console_is = run.console_is;

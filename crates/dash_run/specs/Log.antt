@@ -63,4 +63,4 @@ pub data IsLogged (image : ImageView) (t : Topology) : List ℕ → List Event �
 pub record IsRotationRun (image : ImageView) (t : Topology) (log : List Event) (final : FlatState) : Type 0 where
   pub turns : ℕ
   pub logged : IsLogged image t (rotation (hart_count t) turns) log final
-  pub stands : (h : ℕ) → h < hart_count t → IsFlatStopped image t final h
+  pub stopped : (h : ℕ) → h < hart_count t → IsFlatStopped image t final h

@@ -8,7 +8,7 @@ use hart_core::Hart;
 use std::alloc::Global;
 use std::fmt::Write;
 
-/// The exit status of a run whose harts stand like this.
+/// The exit status of a run whose harts stopped like this.
 pub fn status_of(topology: &Topology, harts: &[Hart]) -> u8
     ensures { result ≡ status_of topology.now harts.now }
 {

@@ -1,4 +1,4 @@
--- Steps and runs by themselves: they lead to one state, may stop anywhere, and end where all harts stand; and an SC may fail.
+-- Steps and runs by themselves: they lead to one state, may stop anywhere, and end where all harts have stopped; and an SC may fail.
 use Rattle.std.proofs.Common.{◌≡◌, inl, inr, ℕ, ◌+◌, Bool, true, false, List, [], ◌∷◌, ◌++◌, Some, None, refl, sym, ◌∙◌, ap, subst}
 use Rattle.std.specs.Prelude.{unwrap_or}
 use Rattle.dash_base.specs.declared.ops.AmoOp.TheVariants.{Sc}
@@ -106,4 +106,4 @@ no_step_of image t old h r new (inr w) s =
 
 pub no_step_after : (image : ImageView) (t : Topology) (rs : List StepRecord) (final : FlatState) → IsCompleteSequentialRun image t rs final
     → (h : ℕ) (r : StepRecord) (new : FlatState) → ¬ IsFlatStep image t final h r new
-no_step_after image t rs final complete h r new s = no_step_of image t final h r new (complete.stands h s.in_range) s
+no_step_after image t rs final complete h r new s = no_step_of image t final h r new (complete.stopped h s.in_range) s

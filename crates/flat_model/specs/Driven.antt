@@ -1,4 +1,4 @@
--- Runs in which it is said which hart is next: an SC succeeds wherever it may, and a hart that stands is passed over.
+-- Runs in which it is said which hart is next: an SC succeeds wherever it may, and a stopped hart is passed over.
 use Rattle.std.specs.Prelude.{◌≡◌, ◌%◌, ℕ, Bool, true, false, ◌==◌, List, [], ◌∷◌, ◌++◌, map, Option, Some, None}
 use Rattle.std.specs.List.{range_with_len}
 use Rattle.dash_base.specs.declared.ops.AmoOp.TheVariants.{Sc}
@@ -26,7 +26,7 @@ pub record IsEagerStep (image : ImageView) (t : Topology) (old : FlatState) (h :
   pub step : IsFlatStep image t old h r new
   pub eager : step.succeeds ≡ succeeds_on old h step.need
 
--- the listed harts in order, from the opening state: each does its next instruction, or is passed over where it stands
+-- the listed harts in order, from the opening state: each does its next instruction, or is passed over where it has stopped
 pub data IsDriven (image : ImageView) (t : Topology) : List ℕ → List StepRecord → FlatState → Type 0 where
   opens : IsDriven image t [] [] (opening_state image t)
   passes : {hs : List ℕ} {rs : List StepRecord} {s : FlatState} (h : ℕ)

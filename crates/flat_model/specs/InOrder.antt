@@ -14,7 +14,7 @@ abbrev pub SucceedsWhereItCan : FlatState → StepRecord → Type 0
 SucceedsWhereItCan s (step.Access a) = a.op ≡ op.Cond → s.reservations a.hart.0 ≡ Some a.word.0 → IsSome a.written
 SucceedsWhereItCan s r = Unit {0}
 
--- the turn of hart h: it stands and is passed over, or does its next instruction
+-- the turn of hart h: it has stopped and is passed over, or does its next instruction
 abbrev pub IsTurn : ImageView → Topology → FlatState → ℕ → List StepRecord → FlatState → Type 0
 IsTurn image t old h [] new = IsFlatStopped image t old h × (new ≡ old)
 IsTurn image t old h (r ∷ []) new = IsFlatStep image t old h r new × SucceedsWhereItCan old r

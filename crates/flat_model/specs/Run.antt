@@ -41,4 +41,4 @@ IsFlatStopped image t s h = (can_go_on t (s.harts h) ≡ false) ⊎ IsBlocked im
 -- a run at whose end each hart has ended, has spent its budget, or waits
 pub record IsCompleteSequentialRun (image : ImageView) (t : Topology) (rs : List StepRecord) (final : FlatState) : Type 0 where
   pub runs : RunsTo image t rs final
-  pub stands : (h : ℕ) → h < hart_count t → IsFlatStopped image t final h
+  pub stopped : (h : ℕ) → h < hart_count t → IsFlatStopped image t final h

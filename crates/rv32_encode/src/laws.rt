@@ -49,7 +49,7 @@ pub fn written_files_give_their_program()
 {}
 
 /// What is loaded of the file of a program is the program, without the segments that have no bytes in
-/// memory; and a refusal is one of those about memory and the entry, or want of memory.
+/// memory; and a refusal is one of those about memory and the entry, or out of memory.
 pub fn load_of_write_elf(
     alloc: Global,
     program: &Program,
