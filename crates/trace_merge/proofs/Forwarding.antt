@@ -1,9 +1,8 @@
 -- The written log of one hart, with a load of the hart's own store, is admissible.
-use Rattle.std.proofs.Common.{◌≡◌, ◌<◌, ℕ, zero, suc, ◌+◌, [], ◌∷◌, Some, refl, sym, ◌∙◌, ap, subst, arith}
-use Rattle.std.specs.Prelude.{◌/◌, ◌-◌, slice_get, option_map}
+use Rattle.std.proofs.Common.{◌≡◌, ◌<◌, ℕ, ◌+◌, Some, refl, sym, ◌∙◌, ap, subst, arith}
+use Rattle.std.specs.Prelude.{◌/◌, ◌-◌}
 use Rattle.dash_base.specs.Topology.{IsSimple}
 use Rattle.dash_base.specs.Words.{merged}
-use Rattle.dash_base.specs.declared.id.ClusterId.{ClusterId}
 use Rattle.dash_base.specs.declared.id.HartId.{HartId}
 use Rattle.dash_base.specs.declared.id.LineId.{LineId}
 use Rattle.dash_base.specs.declared.topology.Topology.{Topology}
@@ -11,15 +10,17 @@ use Rattle.elf_load.specs.Image.{word_among, byte_among}
 use Rattle.dash_base.specs.Places.{line_of}
 use Rattle.dash_event.specs.declared.access.Access.{Access}
 use Rattle.dash_event.specs.declared.access.Seen.TheVariants.{Line, Own}
+use Rattle.dash_event.specs.declared.event.Kind.{Kind}
 use Rattle.dash_event.specs.declared.event.Kind.TheVariants as kind
 use Rattle.dash_event.specs.Offered.{bytes_under}
-use Rattle.dash_model.specs.Log.{IsEventAt, IsShown, IsCommitEvent, commits_before}
+use Rattle.dash_model.specs.Log.{IsEventAt, IsShown, Commits, IsCommitEvent, commits_before}
 use Rattle.dash_model.specs.LineContent.{word_at}
-use Rattle.dash_model.specs.Coherent.{IsCommittedBefore, IsShownOwn, IsCoherent}
+use Rattle.dash_model.specs.Coherent.{IsCommittedBefore, IsShownOwn, IsLockEvent, IsCoherent}
+use Rattle.dash_model.specs.Release.{Releases, IsReleaseEvent}
 use Rattle.dash_model.specs.Admissible.{IsAdmissible}
 use Rattle.trace_merge.specs.WrittenLogs.{forwarding_image, forwarded_store, forwarded_load, committed_load, forwarding_log}
 use Rattle.trace_merge.proofs.Offers.{has_each}
-use Rattle.trace_merge.proofs.Written.{CommitsIn, commits_in, ServesIn, serves_in, ReleasesIn, releases_in, accesses_at, accesses_in_event}
+use Rattle.trace_merge.proofs.Written.{each_at, access_at, ServesNone}
 use Rattle.trace_merge.proofs.ForwardingCode.{harts, replay}
 
 abbrev hart_0 : HartId
@@ -33,12 +34,12 @@ record IsTheStore (i : ℕ) (a : Access) : Type 0 where
   at : i ≡ 0
   is : a ≡ forwarded_store
 
+abbrev StoreAt : ℕ → Kind → Type 0
+StoreAt i (kind.Store a) = IsTheStore i a
+StoreAt i k = Unit {0}
+
 store_is : (i : ℕ) (a : Access) → IsEventAt forwarding_log i (kind.Store a) → IsTheStore i a
-store_is zero a at = record { at = refl; is = cc }
-store_is (suc zero) a at = absurd cc
-store_is (suc (suc zero)) a at = absurd cc
-store_is (suc (suc (suc zero))) a at = absurd cc
-store_is (suc (suc (suc (suc i)))) a at = absurd cc
+store_is i a at = each_at StoreAt forwarding_log (record { at = refl; is = refl }, (tt, (tt, (tt, tt)))) i (kind.Store a) at
 
 record IsTheCommit (i : ℕ) (h : HartId) (n : ℕ) (l : LineId) (v : ℕ) : Type 0 where
   at : i ≡ 2
@@ -47,88 +48,63 @@ record IsTheCommit (i : ℕ) (h : HartId) (n : ℕ) (l : LineId) (v : ℕ) : Typ
   line : line_4 ≡ l
   version : 1 ≡ v
 
-commit_is : (i : ℕ) (h : HartId) (n : ℕ) (l : LineId) (v : ℕ) → IsEventAt forwarding_log i (kind.Commit h n l v) → IsTheCommit i h n l v
-commit_is zero h n l v at = absurd cc
-commit_is (suc zero) h n l v at = absurd cc
-commit_is (suc (suc zero)) h n l v at = record { at = refl; hart = cc; number = cc; line = cc; version = cc }
-commit_is (suc (suc (suc zero))) h n l v at = absurd cc
-commit_is (suc (suc (suc (suc i)))) h n l v at = absurd cc
+abbrev CommitAt : ℕ → Kind → Type 0
+CommitAt i (kind.Commit h n l v) = IsTheCommit i h n l v
+CommitAt i k = Unit {0}
 
-commit_event_is : (i : ℕ) (h : HartId) (l : LineId) (v : ℕ) → CommitsIn (option_map (λ e. e.kind) (slice_get forwarding_log i)) h l v → (i ≡ 2) × (line_4 ≡ l) × (1 ≡ v)
-commit_event_is zero h l v c = elim c [ ]
-commit_event_is (suc zero) h l v c = elim c [ ]
-commit_event_is (suc (suc zero)) h l v c = (refl, c.1, c.2)
-commit_event_is (suc (suc (suc zero))) h l v c = elim c [ ]
-commit_event_is (suc (suc (suc (suc i)))) h l v c = elim c [ ]
+commit_is : (i : ℕ) (h : HartId) (n : ℕ) (l : LineId) (v : ℕ) → IsEventAt forwarding_log i (kind.Commit h n l v) → IsTheCommit i h n l v
+commit_is i h n l v at =
+    each_at CommitAt forwarding_log (tt, (tt, (record { at = refl; hart = refl; number = refl; line = refl; version = refl }, (tt, tt)))) i (kind.Commit h n l v) at
+
+abbrev IsOneCommit : ℕ → Kind → Type 0
+IsOneCommit i k = (h : HartId) (l : LineId) (v : ℕ) → Commits k h l v → (i ≡ 2) × (line_4 ≡ l) × (1 ≡ v)
+
+committed_at : (i : ℕ) (h : HartId) (l : LineId) (v : ℕ) → IsCommitEvent forwarding_log i h l v → (i ≡ 2) × (line_4 ≡ l) × (1 ≡ v)
+committed_at i h l v c = each_at IsOneCommit forwarding_log (λ h l v c. absurd c, (λ h l v c. absurd c, (λ h l v c. (refl, c.1, c.2), (λ h l v c. absurd c, tt)))) i c.kind c.at h l v c.is
 
 record IsTheShown (i : ℕ) (a : Access) (v : ℕ) : Type 0 where
   at : i ≡ 3
   is : a ≡ committed_load
   version : 1 ≡ v
 
-shown_is : (i : ℕ) (a : Access) (v : ℕ) → accesses_at forwarding_log i ≡ a ∷ [] → a.seen ≡ Line v → IsTheShown i a v
-shown_is zero a v at seen = absurd (let same : forwarded_store ≡ a = cc in let e = ap (λ x. x.seen) same ∙ seen in cc)
-shown_is (suc zero) a v at seen = absurd (let same : forwarded_load ≡ a = cc in let e = ap (λ x. x.seen) same ∙ seen in cc)
-shown_is (suc (suc zero)) a v at seen = absurd cc
-shown_is (suc (suc (suc zero))) a v at seen = let same : committed_load ≡ a = cc in let e : Line 1 ≡ Line v = ap (λ x. x.seen) same ∙ seen in record { at = refl; is = sym same; version = cc }
-shown_is (suc (suc (suc (suc i)))) a v at seen = absurd cc
+abbrev ShownAt : ℕ → Access → Type 0
+ShownAt i a = (v : ℕ) → a.seen ≡ Line v → IsTheShown i a v
+
+shown_at : (i : ℕ) (a : Access) (v : ℕ) → IsShown forwarding_log i a v → IsTheShown i a v
+shown_at i a v w =
+    access_at ShownAt forwarding_log (λ v e. absurd cc, (λ v e. absurd cc, (tt, (λ v e. record { at = refl; is = refl; version = cc }, tt)))) i a w.event v w.seen
 
 record IsTheOwn (i : ℕ) (a : Access) (n : ℕ) : Type 0 where
   at : i ≡ 1
   is : a ≡ forwarded_load
   number : 1 ≡ n
 
+abbrev OwnAt : ℕ → Access → Type 0
+OwnAt i a = (n : ℕ) → a.seen ≡ Own n → IsTheOwn i a n
+
 own_is : (i : ℕ) (a : Access) (level n : ℕ) → IsEventAt forwarding_log i (kind.Load a level) → a.seen ≡ Own n → IsTheOwn i a n
-own_is zero a level n at seen = absurd cc
-own_is (suc zero) a level n at seen = let same : forwarded_load ≡ a = cc in let e : Own 1 ≡ Own n = ap (λ x. x.seen) same ∙ seen in record { at = refl; is = sym same; number = cc }
-own_is (suc (suc zero)) a level n at seen = absurd cc
-own_is (suc (suc (suc zero))) a level n at seen = absurd (let same : committed_load ≡ a = cc in let e = ap (λ x. x.seen) same ∙ seen in cc)
-own_is (suc (suc (suc (suc i)))) a level n at seen = absurd cc
+own_is i a level n at =
+    access_at OwnAt forwarding_log (λ n e. absurd cc, (λ n e. record { at = refl; is = refl; number = cc }, (tt, (λ n e. absurd cc, tt)))) i a (record { kind = kind.Load a level; at = at; is = refl }) n
+
+abbrev NoRmw : ℕ → Kind → Type 0
+NoRmw i (kind.Rmw a l v) = ⊥
+NoRmw i k = Unit {0}
 
 no_rmw : (i : ℕ) (a : Access) (l : LineId) (v : ℕ) → ¬ IsEventAt forwarding_log i (kind.Rmw a l v)
-no_rmw zero a l v at = cc
-no_rmw (suc zero) a l v at = cc
-no_rmw (suc (suc zero)) a l v at = cc
-no_rmw (suc (suc (suc zero))) a l v at = cc
-no_rmw (suc (suc (suc (suc i)))) a l v at = cc
+no_rmw i a l v at = each_at NoRmw forwarding_log (tt, (tt, (tt, (tt, tt)))) i (kind.Rmw a l v) at
 
-no_grant : (i : ℕ) (a : Access) → ¬ IsEventAt forwarding_log i (kind.Grant a)
-no_grant zero a at = cc
-no_grant (suc zero) a at = cc
-no_grant (suc (suc zero)) a at = cc
-no_grant (suc (suc (suc zero))) a at = cc
-no_grant (suc (suc (suc (suc i)))) a at = cc
+no_lock : (i : ℕ) (a : Access) → ¬ IsLockEvent forwarding_log i a
+no_lock i a e = each_at ServesNone forwarding_log (λ a s. s, (λ a s. s, (λ a s. s, (λ a s. s, tt)))) i e.kind e.at a e.is
 
-no_free : (i : ℕ) (c : ClusterId) (a : Access) → ¬ IsEventAt forwarding_log i (kind.Free c a)
-no_free zero c a at = cc
-no_free (suc zero) c a at = cc
-no_free (suc (suc zero)) c a at = cc
-no_free (suc (suc (suc zero))) c a at = cc
-no_free (suc (suc (suc (suc i)))) c a at = cc
+abbrev ReleasesNone : ℕ → Kind → Type 0
+ReleasesNone i k = (h : HartId) → Releases forwarding_image k h → ⊥
 
-no_lock : (i : ℕ) (a : Access) → ¬ ServesIn (option_map (λ e. e.kind) (slice_get forwarding_log i)) a
-no_lock zero a c = elim c [ ]
-no_lock (suc zero) a c = elim c [ ]
-no_lock (suc (suc zero)) a c = elim c [ ]
-no_lock (suc (suc (suc zero))) a c = elim c [ ]
-no_lock (suc (suc (suc (suc i)))) a c = elim c [ ]
-
-no_release : (i : ℕ) (h : HartId) → ¬ ReleasesIn forwarding_image (option_map (λ e. e.kind) (slice_get forwarding_log i)) h
-no_release zero h c = elim c [ ]
-no_release (suc zero) h c = elim c [ ]
-no_release (suc (suc zero)) h c = elim c [ ]
-no_release (suc (suc (suc zero))) h c = elim c [ ]
-no_release (suc (suc (suc (suc i)))) h c = elim c [ ]
+no_release : (i : ℕ) (h : HartId) → ¬ IsReleaseEvent forwarding_image forwarding_log i h
+no_release i h r = each_at ReleasesNone forwarding_log (λ h r. r, (λ h r. r, (λ h r. r, (λ h r. r, tt)))) i r.kind r.at h r.is
 
 module _ (t : Topology) (s : IsSimple 1 1 8 t) where
   line_is : line_of t (record { 0 = 64 }) ≡ line_4
   line_is = λ i. record { 0 = (64 - s.base_is i) / 16 }
-
-  shown_at : (i : ℕ) (a : Access) (v : ℕ) → IsShown forwarding_log i a v → IsTheShown i a v
-  shown_at i a v w = shown_is i a v (accesses_in_event forwarding_log i a w.event) w.seen
-
-  committed_at : (i : ℕ) (h : HartId) (l : LineId) (v : ℕ) → IsCommitEvent forwarding_log i h l v → (i ≡ 2) × (line_4 ≡ l) × (1 ≡ v)
-  committed_at i h l v c = commit_event_is i h l v (commits_in forwarding_log i h l v c)
 
   store_committed : (i : ℕ) → 2 < i → IsCommittedBefore forwarding_log forwarded_store i
   store_committed i after = record { at = 2; line = line_4; version = 1; is_at = refl; before = after }
@@ -196,9 +172,9 @@ module _ (t : Topology) (s : IsSimple 1 1 8 t) where
         (let e = shown_at i a u w in let e' = shown_at j b v w' in let z = e.at in let z' = e'.at in absurd (omega arith));
     own_commits_are_seen = λ i j a l u v before c w line.
         (let e = committed_at i a.hart l u c in let e' = shown_at j a v w in let x = e.2 in let y = e'.version in omega arith);
-    locks_count = λ i a w. absurd (no_lock i a (serves_in forwarding_log i a w));
-    locks_are_chained = λ i a w. absurd (no_lock i a (serves_in forwarding_log i a w));
-    grants_read_zero = λ i a at. absurd (no_grant i a at);
+    locks_count = λ i a w. absurd (no_lock i a w);
+    locks_are_chained = λ i a w. absurd (no_lock i a w);
+    grants_read_zero = λ i a at. absurd (no_lock i a (record { kind = kind.Grant a; at = at; is = refl }));
   }
 
   pub is_admissible : IsAdmissible forwarding_image t forwarding_log
@@ -206,9 +182,9 @@ module _ (t : Topology) (s : IsSimple 1 1 8 t) where
     harts = harts t s;
     replay = replay t s;
     coherent = coherent;
-    stores_are_committed = λ i h j b r at hart before. absurd (no_release i h (releases_in forwarding_image forwarding_log i h r));
-    releases_are_seen = λ p h i l u j a v r c before w after line. absurd (no_release p h (releases_in forwarding_image forwarding_log p h r));
+    stores_are_committed = λ i h j b r at hart before. absurd (no_release i h r);
+    releases_are_seen = λ p h i l u j a v r c before w after line. absurd (no_release p h r);
     atomics_are_seen = λ i a l u j b v at w before line. absurd (no_rmw i a l u at);
     conds_are_reserved = λ i a l v at cond. absurd (no_rmw i a l v at);
-    frees_are_sent = λ i c a at. absurd (no_free i c a at);
+    frees_are_sent = λ i c a at. absurd (no_lock i a (record { kind = kind.Free c a; at = at; is = refl }));
   }

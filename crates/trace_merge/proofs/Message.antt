@@ -10,16 +10,15 @@ use Rattle.elf_load.specs.Image.{word_among, byte_among}
 use Rattle.dash_base.specs.Places.{line_of}
 use Rattle.dash_event.specs.declared.access.Access.{Access}
 use Rattle.dash_event.specs.declared.access.Op.TheVariants as op
+use Rattle.dash_event.specs.declared.event.Kind.TheVariants as kind
 use Rattle.dash_event.specs.Offered.{bytes_under}
-use Rattle.dash_model.specs.Log.{IsShown, IsCommitEvent, commits_before}
+use Rattle.dash_model.specs.Log.{commits_before}
 use Rattle.dash_model.specs.LineContent.{word_at}
 use Rattle.dash_model.specs.Coherent.{IsCommittedBefore, IsCoherent}
-use Rattle.dash_model.specs.Release.{IsReleaseEvent}
 use Rattle.dash_model.specs.Admissible.{IsAdmissible}
 use Rattle.trace_merge.specs.WrittenLogs.{message_image, message_store, flag_release, flag_acquire, message_load, message_log}
-use Rattle.trace_merge.proofs.Written.{commits_in, serves_in, releases_in, accesses_in_event}
 use Rattle.trace_merge.proofs.MessageReplay.{harts, replay}
-use Rattle.trace_merge.proofs.MessageEvents.{hart_0, line_0, line_4, IsTheStore, store_is, commit_is, rmw_is, IsACommit, commit_event_is, IsAShown, IsTheShown, shown_is, no_own, no_grant, no_free, no_lock, release_is}
+use Rattle.trace_merge.proofs.MessageEvents.{line_0, line_4, IsTheStore, store_is, commit_is, rmw_is, IsACommit, commit_event_is, IsAShown, IsTheShown, shown_is, no_own, no_lock, release_is}
 
 module _ (t : Topology) (s : IsSimple 2 1 8 t) where
   message_line : line_of t (record { 0 = 64 }) ≡ line_4
@@ -27,15 +26,6 @@ module _ (t : Topology) (s : IsSimple 2 1 8 t) where
 
   flag_line : line_of t (record { 0 = 0 }) ≡ line_0
   flag_line = λ i. record { 0 = (0 - s.base_is i) / 16 }
-
-  shown_at : (i : ℕ) (a : Access) (v : ℕ) → IsShown message_log i a v → IsTheShown i a v
-  shown_at i a v w = shown_is i a v (accesses_in_event message_log i a w.event) w.seen
-
-  commit_at : (i : ℕ) (h : HartId) (l : LineId) (v : ℕ) → IsCommitEvent message_log i h l v → IsACommit 2 line_4 i h l v ⊎ IsACommit 3 line_0 i h l v
-  commit_at i h l v c = commit_event_is i h l v (commits_in message_log i h l v c)
-
-  release_at : (i : ℕ) (h : HartId) → IsReleaseEvent message_image message_log i h → (i ≡ 3) × (hart_0 ≡ h)
-  release_at i h r = release_is i h (releases_in message_image message_log i h r)
 
   store_committed : (i : ℕ) → 2 < i → IsCommittedBefore message_log message_store i
   store_committed i after = record { at = 2; line = line_4; version = 1; is_at = refl; before = after }
@@ -103,7 +93,7 @@ module _ (t : Topology) (s : IsSimple 2 1 8 t) where
 
   coherent : IsCoherent message_image t message_log
   coherent = record {
-    versions_count = λ i h l v c. versions i h l v (commit_at i h l v c);
+    versions_count = λ i h l v c. versions i h l v (commit_event_is i h l v c);
     commits_follow_stores = λ i h n l v at.
         let e = commit_is i h n l v at in
         let z = e.at in
@@ -113,16 +103,16 @@ module _ (t : Topology) (s : IsSimple 2 1 8 t) where
     no_store_is_passed = λ i h n l v j b at at_j hart less.
         (let e = commit_is i h n l v at in let w = store_is j b at_j in let x : b.number ≡ 2 = ap (λ y. y.number) w.is in let y = e.number in absurd (omega arith));
     rmw_of_its_line = λ i a l v at. (let e = rmw_is i a l v at in sym e.line ∙ sym flag_line ∙ ap (λ x. line_of t x.word) (sym e.is));
-    shown_is_committed = λ i a v w. shown_committed i a v (shown_at i a v w);
-    reads_shown = λ i a v value w read. reads i a v value (shown_at i a v w) read;
+    shown_is_committed = λ i a v w. shown_committed i a v (shown_is i a v w);
+    reads_shown = λ i a v value w read. reads i a v value (shown_is i a v w) read;
     rmw_shows_last = λ i a l v at. (let e = rmw_is i a l v at in (0, ap (λ x. x.seen) e.is, sym e.version));
-    own_stores_are_committed = λ i a v j b w at before hart word. own_committed i a v j b (shown_at i a v w) (store_is j b at) hart before;
+    own_stores_are_committed = λ i a v j b w at before hart word. own_committed i a v j b (shown_is i a v w) (store_is j b at) hart before;
     own_is_newest = λ i a level n at own. absurd (no_own i a level n at own);
-    never_falls = λ i j a b u v before w w' hart line. falls i j a b u v before (shown_at i a u w) (shown_at j b v w');
-    own_commits_are_seen = λ i j a l u v before c w line. own_seen i j a l u v before (commit_at i a.hart l u c) (shown_at j a v w) line;
-    locks_count = λ i a w. absurd (no_lock i a (serves_in message_log i a w));
-    locks_are_chained = λ i a w. absurd (no_lock i a (serves_in message_log i a w));
-    grants_read_zero = λ i a at. absurd (no_grant i a at);
+    never_falls = λ i j a b u v before w w' hart line. falls i j a b u v before (shown_is i a u w) (shown_is j b v w');
+    own_commits_are_seen = λ i j a l u v before c w line. own_seen i j a l u v before (commit_event_is i a.hart l u c) (shown_is j a v w) line;
+    locks_count = λ i a w. absurd (no_lock i a w);
+    locks_are_chained = λ i a w. absurd (no_lock i a w);
+    grants_read_zero = λ i a at. absurd (no_lock i a (record { kind = kind.Grant a; at = at; is = refl }));
   }
 
   pub is_admissible : IsAdmissible message_image t message_log
@@ -131,12 +121,12 @@ module _ (t : Topology) (s : IsSimple 2 1 8 t) where
     replay = replay t s;
     coherent = coherent;
     stores_are_committed = λ i h j b r at hart before.
-        (let e = release_at i h r in let z = e.0 in let c = store_is j b at in subst (λ x. IsCommittedBefore message_log x i) (sym c.is) (store_committed i (omega arith)));
+        (let e = release_is i h r in let z = e.0 in let c = store_is j b at in subst (λ x. IsCommittedBefore message_log x i) (sym c.is) (store_committed i (omega arith)));
     releases_are_seen = λ p h i l u j a v r c before w after line.
-        (let e = release_at p h r in let z = e.0 in seen j a u v (one_version i h l u (commit_at i h l u c)) (omega arith) (shown_at j a v w));
+        (let e = release_is p h r in let z = e.0 in seen j a u v (one_version i h l u (commit_event_is i h l u c)) (omega arith) (shown_is j a v w));
     atomics_are_seen = λ i a l u j b v at w before line.
-        (let e = rmw_is i a l u at in let z = e.at in seen j b u v e.version (omega arith) (shown_at j b v w));
+        (let e = rmw_is i a l u at in let z = e.at in seen j b u v e.version (omega arith) (shown_is j b v w));
     conds_are_reserved = λ i a l v at cond.
         absurd (let e = rmw_is i a l v at in let amo : op.Amo ≡ op.Cond = ap (λ x. x.op) (sym e.is) ∙ cond in cc);
-    frees_are_sent = λ i c a at. absurd (no_free i c a at);
+    frees_are_sent = λ i c a at. absurd (no_lock i a (record { kind = kind.Free c a; at = at; is = refl }));
   }

@@ -1,11 +1,9 @@
 -- What written logs have in common: what stands at a position, and accesses that don't trap.
-use Rattle.std.proofs.Common.{◌≡◌, ◌≢◌, ◌<◌, ◌≤◌, ℕ, Bool, true, false, List, [], ◌∷◌, Option, Some, None, refl, sym, ◌∙◌, subst, arith}
+use Rattle.std.proofs.Common.{◌≡◌, ◌≢◌, ◌<◌, ◌≤◌, ℕ, zero, suc, Bool, true, false, List, [], ◌∷◌, Some, None, refl, subst, arith}
 use Rattle.std.proofs.lemmas.Bool.Decides.{nat_tests}
-use Rattle.std.specs.Prelude.{◌==◌, ◌&&◌, ◌%◌, not, if◌then◌else◌, slice_get, option_map}
+use Rattle.std.specs.Prelude.{◌==◌, ◌&&◌, ◌%◌, not, if◌then◌else◌}
 use Rattle.dash_base.specs.Topology.{IsSimple}
 use Rattle.dash_base.specs.declared.end.Trap.TheVariants as trap
-use Rattle.dash_base.specs.declared.id.HartId.{HartId}
-use Rattle.dash_base.specs.declared.id.LineId.{LineId}
 use Rattle.dash_base.specs.declared.topology.Topology.{Topology}
 use Rattle.elf_load.specs.Image.{ImageView, is_writable}
 use Rattle.hart_core.specs.HartState.{HartState}
@@ -14,39 +12,45 @@ use Rattle.dash_event.specs.Records.{accesses_in}
 use Rattle.dash_event.specs.declared.access.Access.{Access}
 use Rattle.dash_event.specs.declared.event.Event.{Event}
 use Rattle.dash_event.specs.declared.event.Kind.{Kind}
-use Rattle.dash_model.specs.Log.{IsAccessEvent, Commits, IsCommitEvent}
-use Rattle.dash_model.specs.Coherent.{ServesLock, IsLockEvent}
-use Rattle.dash_model.specs.Release.{Releases, IsReleaseEvent}
-use Rattle.trace_merge.proofs.Places.{made, made_by}
+use Rattle.dash_event.specs.declared.event.Kind.TheVariants as kind
+use Rattle.dash_model.specs.Log.{IsEventAt, IsAccessEvent}
+use Rattle.dash_model.specs.Coherent.{ServesLock}
 
--- what stands at a position, if there is an event
-abbrev pub CommitsIn : Option Kind → HartId → LineId → ℕ → Type 0
-CommitsIn None h l v = ⊥
-CommitsIn (Some k) h l v = Commits k h l v
+-- what holds of each event of a log, by its position
+abbrev pub Each : (ℕ → Kind → Type 0) → List Event → Type 0
+Each P [] = Unit {0}
+Each P (e ∷ es) = P 0 e.kind × Each (λ j. P (suc j)) es
 
-pub commits_in : (log : List Event) (i : ℕ) (h : HartId) (l : LineId) (v : ℕ) → IsCommitEvent log i h l v → CommitsIn (option_map (λ e. e.kind) (slice_get log i)) h l v
-commits_in log i h l v c = subst (λ o. CommitsIn o h l v) (sym c.at) c.is
+pub each_at : (P : ℕ → Kind → Type 0) (log : List Event) → Each P log → (i : ℕ) (k : Kind) → IsEventAt log i k → P i k
+each_at P [] all i k at = absurd cc
+each_at P (e ∷ es) all zero k at = subst (P 0) (let same : e.kind ≡ k = cc in same) all.0
+each_at P (e ∷ es) all (suc i) k at = each_at (λ j. P (suc j)) es all.1 i k at
 
-abbrev pub ServesIn : Option Kind → Access → Type 0
-ServesIn None a = ⊥
-ServesIn (Some k) a = ServesLock k a
+-- what holds of an event's access, where it has one
+abbrev pub OfAccess : (ℕ → Access → Type 0) → ℕ → Kind → Type 0
+OfAccess Q i (kind.Load a level) = Q i a
+OfAccess Q i (kind.Store a) = Q i a
+OfAccess Q i (kind.Rmw a l v) = Q i a
+OfAccess Q i (kind.ScFail a) = Q i a
+OfAccess Q i (kind.Grant a) = Q i a
+OfAccess Q i (kind.Free from a) = Q i a
+OfAccess Q i k = Unit {0}
 
-pub serves_in : (log : List Event) (i : ℕ) (a : Access) → IsLockEvent log i a → ServesIn (option_map (λ e. e.kind) (slice_get log i)) a
-serves_in log i a e = subst (λ o. ServesIn o a) (sym e.at) e.is
+of_access : (Q : ℕ → Access → Type 0) (i : ℕ) (k : Kind) (a : Access) → OfAccess Q i k → accesses_in k ≡ a ∷ [] → Q i a
+of_access Q i (kind.Load b level) a q is = subst (Q i) (let same : b ≡ a = cc in same) q
+of_access Q i (kind.Store b) a q is = subst (Q i) (let same : b ≡ a = cc in same) q
+of_access Q i (kind.Rmw b l v) a q is = subst (Q i) (let same : b ≡ a = cc in same) q
+of_access Q i (kind.ScFail b) a q is = subst (Q i) (let same : b ≡ a = cc in same) q
+of_access Q i (kind.Grant b) a q is = subst (Q i) (let same : b ≡ a = cc in same) q
+of_access Q i (kind.Free from b) a q is = subst (Q i) (let same : b ≡ a = cc in same) q
+of_access Q i k a q is = absurd cc
 
-abbrev pub ReleasesIn : ImageView → Option Kind → HartId → Type 0
-ReleasesIn image None h = ⊥
-ReleasesIn image (Some k) h = Releases image k h
+pub access_at : (Q : ℕ → Access → Type 0) (log : List Event) → Each (OfAccess Q) log → (i : ℕ) (a : Access) → IsAccessEvent log i a → Q i a
+access_at Q log all i a e = of_access Q i e.kind a (each_at (OfAccess Q) log all i e.kind e.at) e.is
 
-pub releases_in : (image : ImageView) (log : List Event) (i : ℕ) (h : HartId) → IsReleaseEvent image log i h → ReleasesIn image (option_map (λ e. e.kind) (slice_get log i)) h
-releases_in image log i h r = subst (λ o. ReleasesIn image o h) (sym r.at) r.is
-
--- the access at a position, as a list
-abbrev pub accesses_at : List Event → ℕ → List Access
-accesses_at log i = made accesses_in (slice_get log i)
-
-pub accesses_in_event : (log : List Event) (i : ℕ) (a : Access) → IsAccessEvent log i a → accesses_at log i ≡ a ∷ []
-accesses_in_event log i a e = made_by accesses_in (slice_get log i) e.kind e.at ∙ e.is
+-- an event serves no lock word
+abbrev pub ServesNone : ℕ → Kind → Type 0
+ServesNone i k = (a : Access) → ServesLock k a → ⊥
 
 -- an access that is aligned, low in memory and of no read-only bytes does not trap
 module _ (clusters harts budget : ℕ) (t : Topology) (s : IsSimple clusters harts budget t) where
