@@ -1,5 +1,5 @@
 -- The written log of one hart, replayed: its instructions are those of the image.
-use Rattle.std.proofs.Common.{◌≡◌, ◌≢◌, inl, inr, ◌<◌, ℕ, zero, suc, ◌+◌, Bool, true, false, refl, sym, ap, subst, arith}
+use Rattle.std.proofs.Common.{◌≡◌, ◌≢◌, inl, inr, ◌<◌, ℕ, zero, suc, ◌+◌, Bool, true, false, refl, sym, ap, arith}
 use Rattle.std.proofs.lemmas.Bool.Decides.{nat_tests}
 use Rattle.std.specs.Prelude.{◌==◌, ◌*◌, nat_lt, if◌then◌else◌, pos}
 use Rattle.dash_base.specs.Topology.{IsSimple}
@@ -20,12 +20,10 @@ use Rattle.hart_core.specs.Meaning.{performed, instr_need}
 use Rattle.hart_core.specs.declared.found.Found.TheVariants.{This}
 use Rattle.dash_base.specs.declared.need.Need.TheVariants as needed
 use Rattle.dash_event.specs.declared.event.Kind.{Kind}
-use Rattle.dash_event.specs.declared.event.Kind.TheVariants as kind
 use Rattle.dash_event.specs.Offered.{no_label}
-use Rattle.dash_model.specs.Log.{IsEventAt}
 use Rattle.dash_model.specs.Replay.{Harts, Accesses, Replays, IsReplay}
 use Rattle.trace_merge.specs.WrittenLogs.{forwarding_image, forwarded_store, forwarded_load, committed_load, forwarding_log}
-use Rattle.trace_merge.proofs.Written.{access_clear, hart_by}
+use Rattle.trace_merge.proofs.Written.{Each, each_at, access_clear, hart_by}
 
 -- its instructions
 pub sw : Instr
@@ -115,18 +113,16 @@ module _ (t : Topology) (s : IsSimple 1 1 8 t) where
     is_offered = refl;
   }
 
-  moves : (i : ℕ) (k : Kind) → IsEventAt forwarding_log i k → Replays forwarding_image t (harts i) k (harts (i + 1))
-  moves zero k at = subst (λ x. Replays forwarding_image t (harts 0) x (harts 1)) (let e : kind.Store forwarded_store ≡ k = cc in e) (store_moves, refl, refl)
-  moves (suc zero) k at =
-      subst (λ x. Replays forwarding_image t (harts 1) x (harts 2)) (let e : kind.Load forwarded_load 0 ≡ k = cc in e) (byte_moves, inl (refl, inr (record { number = 1; is = refl; in_buffer = refl })))
-  moves (suc (suc zero)) k at =
-      subst (λ x. Replays forwarding_image t (harts 2) x (harts 3)) (let e : kind.Commit hart_0 1 line_4 1 ≡ k = cc in e) (record { in_range = count; stays = λ g. refl })
-  moves (suc (suc (suc zero))) k at =
-      subst (λ x. Replays forwarding_image t (harts 3) x (harts 4)) (let e : kind.Load committed_load 1 ≡ k = cc in e) (word_moves, inl (refl, inl (record { version = 1; is = refl; in_caches = inl refl })))
-  moves (suc (suc (suc (suc i)))) k at = absurd cc
+  -- what each event does to the harts
+  abbrev Moves : ℕ → Kind → Type 0
+  Moves i k = Replays forwarding_image t (harts i) k (harts (i + 1))
+
+  moves : Each Moves forwarding_log
+  moves =
+      ((store_moves, refl, refl), ((byte_moves, inl (refl, inr (record { number = 1; is = refl; in_buffer = refl }))), (record { in_range = count; stays = λ g. refl }, ((word_moves, inl (refl, inl (record { version = 1; is = refl; in_caches = inl refl }))), tt))))
 
   pub replay : IsReplay forwarding_image t forwarding_log harts
-  replay = record { opens = λ h. opens_by h (h == 0) refl; moves = moves }
+  replay = record { opens = λ h. opens_by h (h == 0) refl; moves = each_at Moves forwarding_log moves }
     where
       opens_by : (h : ℕ) (b : Bool) → (h == 0) ≡ b → (if b then opening_hart forwarding_image t 0 else opening_hart forwarding_image t h) ≡ opening_hart forwarding_image t h
       opens_by h true e = let z : 0 ≡ h = grind (arith, nat_tests) in ap (opening_hart forwarding_image t) z

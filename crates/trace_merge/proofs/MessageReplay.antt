@@ -1,5 +1,5 @@
 -- The written message passing, replayed: each hart's instructions are those of the image.
-use Rattle.std.proofs.Common.{◌≡◌, ◌≢◌, inl, inr, ◌<◌, ℕ, zero, suc, ◌+◌, Bool, true, false, refl, sym, ap, subst, arith, ◌∙◌}
+use Rattle.std.proofs.Common.{◌≡◌, ◌≢◌, inl, inr, ◌<◌, ℕ, zero, suc, ◌+◌, Bool, true, false, refl, sym, ap, arith, ◌∙◌}
 use Rattle.std.proofs.lemmas.Bool.Decides.{nat_tests}
 use Rattle.std.specs.Prelude.{◌==◌, ◌*◌, nat_lt, if◌then◌else◌}
 use Rattle.dash_base.specs.Topology.{IsSimple}
@@ -15,12 +15,10 @@ use Rattle.hart_core.specs.Meaning.{performed, instr_need}
 use Rattle.hart_core.specs.declared.found.Found.TheVariants.{This}
 use Rattle.dash_base.specs.declared.need.Need.TheVariants as needed
 use Rattle.dash_event.specs.declared.event.Kind.{Kind}
-use Rattle.dash_event.specs.declared.event.Kind.TheVariants as kind
 use Rattle.dash_event.specs.Offered.{no_label, acquire_label, release_label}
-use Rattle.dash_model.specs.Log.{IsEventAt}
 use Rattle.dash_model.specs.Replay.{Harts, MovesAt, Accesses, Replays, IsReplay}
 use Rattle.trace_merge.specs.WrittenLogs.{message_image, message_store, flag_release, flag_acquire, message_load, message_log}
-use Rattle.trace_merge.proofs.Written.{hart_by}
+use Rattle.trace_merge.proofs.Written.{Each, each_at, hart_by}
 use Rattle.trace_merge.proofs.MessageCode.{skip, write, release, acquire, again, read, skip_found, write_found, release_found, acquire_found, again_found, read_found, write_need, release_need, acquire_need, read_need}
 
 abbrev hart_0 : HartId
@@ -179,27 +177,16 @@ module _ (t : Topology) (s : IsSimple 2 1 8 t) where
     is_offered = refl;
   }
 
-  moves : (i : ℕ) (k : Kind) → IsEventAt message_log i k → Replays message_image t (harts i) k (harts (i + 1))
-  moves zero k at =
-      subst (λ x. Replays message_image t (harts 0) x (harts 1)) (let e : kind.Alu hart_0 4096 ≡ k = cc in e) writer_skips
-  moves (suc zero) k at =
-      subst (λ x. Replays message_image t (harts 1) x (harts 2)) (let e : kind.Store message_store ≡ k = cc in e) (writes, refl, refl)
-  moves (suc (suc zero)) k at =
-      subst (λ x. Replays message_image t (harts 2) x (harts 3)) (let e : kind.Commit hart_0 2 (record { 0 = 4 }) 1 ≡ k = cc in e) (record { in_range = in_range 0 (omega arith); stays = λ g. refl })
-  moves (suc (suc (suc zero))) k at =
-      subst (λ x. Replays message_image t (harts 3) x (harts 4)) (let e : kind.Rmw flag_release (record { 0 = 0 }) 1 ≡ k = cc in e) (releases, inl refl)
-  moves (suc (suc (suc (suc zero)))) k at =
-      subst (λ x. Replays message_image t (harts 4) x (harts 5)) (let e : kind.Alu hart_1 4096 ≡ k = cc in e) reader_skips
-  moves (suc (suc (suc (suc (suc zero))))) k at =
-      subst (λ x. Replays message_image t (harts 5) x (harts 6)) (let e : kind.Load flag_acquire 1 ≡ k = cc in e) (acquires, inr (refl, record { version = 1; is = refl; in_caches = inl refl }))
-  moves (suc (suc (suc (suc (suc (suc zero)))))) k at =
-      subst (λ x. Replays message_image t (harts 6) x (harts 7)) (let e : kind.Alu hart_1 4112 ≡ k = cc in e) reader_goes_on
-  moves (suc (suc (suc (suc (suc (suc (suc zero))))))) k at =
-      subst (λ x. Replays message_image t (harts 7) x (harts 8)) (let e : kind.Load message_load 1 ≡ k = cc in e) (reads, inl (refl, inl (record { version = 1; is = refl; in_caches = inl refl })))
-  moves (suc (suc (suc (suc (suc (suc (suc (suc i)))))))) k at = absurd cc
+  -- what each event does to the harts
+  abbrev Moves : ℕ → Kind → Type 0
+  Moves i k = Replays message_image t (harts i) k (harts (i + 1))
+
+  moves : Each Moves message_log
+  moves =
+      (writer_skips, ((writes, refl, refl), (record { in_range = in_range 0 (omega arith); stays = λ g. refl }, ((releases, inl refl), (reader_skips, ((acquires, inr (refl, record { version = 1; is = refl; in_caches = inl refl })), (reader_goes_on, ((reads, inl (refl, inl (record { version = 1; is = refl; in_caches = inl refl }))), tt))))))))
 
   pub replay : IsReplay message_image t message_log harts
-  replay = record { opens = λ h. opens_by h (h == 0) (h == 1) refl refl; moves = moves }
+  replay = record { opens = λ h. opens_by h (h == 0) (h == 1) refl refl; moves = each_at Moves message_log moves }
     where
       opens_by : (h : ℕ) (b c : Bool) → (h == 0) ≡ b → (h == 1) ≡ c → (if b then opening_hart message_image t 0 else (if c then opening_hart message_image t 1 else opening_hart message_image t h)) ≡ opening_hart message_image t h
       opens_by h true c e e' = let z : 0 ≡ h = grind (arith, nat_tests) in ap (opening_hart message_image t) z
