@@ -22,9 +22,7 @@ byte_of r = []
 
 console_grows : (r : StepRecord) (old : List ℕ) → console_after r old ≡ old ++ byte_of r
 console_grows (step.Byte hart byte) old = refl
-console_grows (step.Access a) old = sym (append-nil old)
-console_grows (step.Stopped hart end) old = sym (append-nil old)
-console_grows (step.Plain hart) old = sym (append-nil old)
+console_grows r old = sym (append-nil old)
 
 -- steps add their bytes
 console_left : (image : ImageView) (t : Topology) (old : FlatState) (rs : List StepRecord) (new : FlatState) → AreFlatSteps image t old rs new
@@ -36,17 +34,7 @@ console_left image t old (r ∷ rs) new steps =
     ∙ append_assoc old.console (byte_of r) (flat_map byte_of rs)
 
 byte_in_record : (k : Kind) → flat_map byte_of (records_in k) ≡ bytes_in k
-byte_in_record (kind.Load a l) = refl
-byte_in_record (kind.Store a) = refl
-byte_in_record (kind.Rmw a l v) = refl
-byte_in_record (kind.ScFail a) = refl
-byte_in_record (kind.Grant a) = refl
-byte_in_record (kind.Free c a) = refl
-byte_in_record (kind.Alu h pc) = refl
-byte_in_record (kind.Fence h pc) = refl
-byte_in_record (kind.Hint h pc s) = refl
 byte_in_record (kind.Put h pc b) = refl
-byte_in_record (kind.Stop h pc e) = refl
 byte_in_record k = refl
 
 bytes_of_records : (log : List Event) → flat_map byte_of (records_of log) ≡ console_of log
