@@ -25,6 +25,12 @@ pub mod Budgets
 pub mod Reached
 pub mod OneToken
 pub mod LineFacts
+pub mod LogPlaces
+pub mod OwedSince
+pub mod Alone
+pub mod OwedEntry
+pub mod OwedStep
+pub mod OwedFacts
 pub mod BufferFacts
 pub mod Lanes
 pub mod Effects

@@ -33,6 +33,7 @@ pub mod Cases
 pub mod LockFacts
 pub mod OnLine
 pub mod LineFacts
+pub mod OwedFacts
 pub mod BufferFacts
 pub mod MachineLaws
 pub mod ExampleLogs

@@ -6,6 +6,7 @@ ghost use Rattle.dash_model.specs.History.{VersionsStayBelowGreatest};
 ghost use Rattle.dash_model.specs.LineFacts.{RunsKeepLines};
 ghost use Rattle.dash_model.specs.LockFacts.{MessagesAreInRange, LinesAreOfMemory, RunsKeepLocks, LocksAreCounted, LockUsesAreNumbered};
 ghost use Rattle.dash_model.specs.MachineLaws.{EventsFixEffects, LanesAreQueues, StepsChangeOnePart, StampsRise, CommitsAreNumbered, EventsHappen, LocalRunsGrow, MergesAreRuns};
+ghost use Rattle.dash_model.specs.OwedFacts.{RunsOweAsLogged};
 ghost use Rattle.dash_model.specs.TableAccesses.{RowsOfAccesses};
 ghost use Rattle.dash_model.specs.TableHarts.{RowsOfHarts};
 ghost use Rattle.dash_model.specs.TableHome.{RowsOfHome};
@@ -20,6 +21,14 @@ ghost use Rattle.dash_model.specs.TableMessages.{RowsOfMessages};
 /// invalidations at a time; and nowhere a version that the log has not committed.
 pub fn runs_keep_lines()
     ensures { RunsKeepLines }
+{}
+
+/// In every run each cluster's entry of a line counts its acknowledgements as the log does: what is due to
+/// the cluster, as announced and not yet taken, is the number expected less those that came. And the entry
+/// owes to the harts to whom the log does, and to no other: those of its cluster that committed a version of
+/// the line since the cluster last took the line to own, while acknowledgements are due.
+pub fn runs_owe_as_logged()
+    ensures { RunsOweAsLogged }
 {}
 
 /// In every run the stores of a hart are those that the log commits, in the order of their commits, and
