@@ -1,0 +1,4 @@
+pub mod View
+pub mod Steps
+pub mod Kept
+pub mod Laws
