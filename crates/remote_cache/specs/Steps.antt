@@ -1,10 +1,10 @@
 -- The slots after each call.
-use Rattle.std.specs.Prelude.{ℕ, Bool, List, Option, Some, None, slice_set}
+use Rattle.std.specs.Prelude.{ℕ, Bool, true, false, List, Option, Some, None, slice_set}
 use Rattle.dash_base.specs.declared.line.Line.{Line}
 use Rattle.dash_base.specs.declared.id.LineId.{LineId}
 use Rattle.dash_msg.specs.declared.msg.Msg.{Msg}
 use Rattle.remote_cache.specs.declared.slot.Phase.{Phase}
-use Rattle.remote_cache.specs.declared.slot.Phase.TheVariants.{Asked, Came}
+use Rattle.remote_cache.specs.declared.slot.Phase.TheVariants.{Asked, Refused, Came}
 use Rattle.remote_cache.specs.declared.slot.Slot.{Slot}
 use Rattle.remote_cache.specs.declared.change.Change.{Change}
 use Rattle.remote_cache.specs.declared.change.Change.TheVariants.{Stays, Becomes, Closes}
@@ -24,6 +24,21 @@ came_in _ = None
 abbrev pub arrived_in : Option Slot → Option Line
 arrived_in None = None
 arrived_in (Some s) = came_in s.phase
+
+-- whether this is the phase of a request that is to be sent again
+abbrev pub is_refused_phase : Phase → Bool
+is_refused_phase Refused = true
+is_refused_phase _ = false
+
+-- whether a slot, which may be empty, is refused
+abbrev pub is_refused : Option Slot → Bool
+is_refused None = false
+is_refused (Some s) = is_refused_phase s.phase
+
+-- the same request, which has just been sent again
+abbrev pub asked_again : Option Slot → Option Slot
+asked_again None = None
+asked_again (Some s) = Some (record s { phase = Asked })
 
 -- what a row makes of a slot, which may be empty
 abbrev pub change_in : (Slot → Change) → Option Slot → Change

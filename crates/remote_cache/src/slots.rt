@@ -1,9 +1,9 @@
 //! The slots of a cluster.
-ghost use Rattle.std.specs.Prelude.{◌≡◌, ◌<◌, ◌≤◌, ◌+◌, IfSome, None, Some};
+ghost use Rattle.std.specs.Prelude.{◌≡◌, ◌<◌, ◌≤◌, ◌+◌, true, IfSome, None, Some};
 ghost use Rattle.dash_base.specs.Bounds.{IsBetween};
 ghost use Rattle.dash_base.specs.Places as places;
 ghost use Rattle.remote_cache.specs.View.{SlotsView, count, first_prefetch, is_prefetch, slot_at, slot_of, with_slot, empty_slots, IsOnePerLine};
-ghost use Rattle.remote_cache.specs.Steps.{issued, arrived_in, reply_met, after_reply, after_inval};
+ghost use Rattle.remote_cache.specs.Steps.{issued, is_refused, asked_again, arrived_in, reply_met, after_reply, after_inval};
 
 use crate::slot::{Phase, Slot};
 use crate::{change, search};
@@ -99,6 +99,20 @@ impl Slots {
             own,
             phase: Phase::Asked,
         });
+    }
+
+    /// The request of a refused slot was sent again: the slot waits for its reply as it did at first.
+    pub fn ask_again(&mut self, id: u32)
+        requires in_range { id < count self.old }
+        requires refused { is_refused (slot_at self.old id) ≡ true }
+        ensures { self.new ≡ with_slot self.old id (asked_again (slot_at self.old id)) }
+    {
+        let slot = self.get(id).unwrap();
+        let again = Slot {
+            phase: Phase::Asked,
+            ..slot
+        };
+        self.slots[id as usize] = Some(again);
     }
 
     /// A reply came. Data comes to the slot of its line that waits for it, and is dropped by one that

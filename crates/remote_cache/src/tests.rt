@@ -104,6 +104,40 @@ fn a_copy_comes_and_the_slot_is_free_again(rt: HostRuntime) {
     assert_eq!(rt; slots.of_line(OTHER), Some(0));
 }
 
+/// Asks again for the line of a slot, where it is there and refused. The answer says whether it did.
+fn ask_again(slots: &mut Slots, id: u32) -> bool {
+    if id >= slots.count() {
+        return false;
+    }
+    match slots.get(id) {
+        Some(
+            Slot {
+                phase: Phase::Refused,
+                ..
+            },
+        ) => {
+            slots.ask_again(id);
+            true
+        }
+        _ => false,
+    }
+}
+
+#[test]
+fn a_refused_request_is_sent_again(rt: HostRuntime) {
+    let mut slots = Slots::new(2, 1);
+    assert!(rt; issue(&mut slots, 1, LINE, true));
+    assert!(rt; issue(&mut slots, 2, OTHER, false));
+    assert!(rt; !ask_again(&mut slots, 1));
+    assert_eq!(rt; slots.take_reply(&NAK), Some(1));
+    assert!(rt; !ask_again(&mut slots, 2));
+    assert!(rt; ask_again(&mut slots, 1));
+    assert!(rt; !ask_again(&mut slots, 1));
+    assert_eq!(rt; slots.take_reply(&DATA_EX), Some(1));
+    assert_eq!(rt; arrived(&slots, 1), Some(COPY));
+    assert_eq!(rt; got(&slots, 1).map(|slot| slot.own), Some(true));
+}
+
 /// What happens to a slot.
 #[derive(Clone, Copy)]
 enum Step {
