@@ -1,0 +1,10 @@
+//! The slot that a prefetch hint opens.
+//!
+//! No call takes memory, and none can fail.
+#![tactic(auto)]
+
+pub use choice::choose;
+
+mod choice;
+#[cfg(test)]
+mod tests;
