@@ -31,6 +31,9 @@ pub mod Alone
 pub mod OwedEntry
 pub mod OwedStep
 pub mod OwedFacts
+pub mod HiddenCopy
+pub mod LineViews
+pub mod PendingFacts
 pub mod BufferFacts
 pub mod Lanes
 pub mod Effects

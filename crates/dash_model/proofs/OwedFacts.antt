@@ -210,7 +210,7 @@ owes_step w log e l c a b at (Told f d n g o is from to) k =
     subst (OwesSince w (log ++ e ∷ []) l c) (sym to) (owes_if w (log ++ e ∷ []) l c n g o (g == n) (subst (λ z. (h : ℕ) → OwesHart w (log ++ e ∷ []) l c z h) (sym none) (λ h. hart_told w log e l c f d n h at is)))
 
 -- the line at a cluster after a log
-record Agrees (w : Config) (log : List Event) (l c : ℕ) (a : Cell) : Type 0 where
+pub record Agrees (w : Config) (log : List Event) (l c : ℕ) (a : Cell) : Type 0 where
   pub sums : SumsAre a.acks (taken (announced_by (line_id l)) (cluster_id c) log) (taken (acknowledged_by (line_id l)) (cluster_id c) log)
   pub owes : OwesSince w log l c a.acks
   pub alone : Alone a
@@ -256,7 +256,7 @@ agrees_if w log m g l c v true is low can r k =
     subst (λ y. Agrees w (log ++ g.event ∷ []) l y ((part_after w g.event.cluster.0 g (m.parts g.event.cluster.0)).cells l)) (sym s) (agrees_own w log g.event l g.event.cluster.0 (cell_at l m g.event.cluster.0) ((part_after w g.event.cluster.0 g (m.parts g.event.cluster.0)).cells l) refl (cell_step w l known.content m g.event.cluster.0 g.stamp g.event.kind g.done low can.steps.guard can.head known.holds there.alone) there)
 agrees_if w log m g l c v false is low can r k = agrees_other w log g.event g.done (m.parts g.event.cluster.0) l c (cell_at l m c) (λ e. not_same c g.event.cluster.0 is (sym e)) can.steps.guard k
 
-agrees : (w : Config) (log : List Event) (m : Machine) (l c : ℕ) → l < lines w → Reaches w log m → Agrees w log l c (cell_at l m c)
+pub agrees : (w : Config) (log : List Event) (m : Machine) (l c : ℕ) → l < lines w → Reaches w log m → Agrees w log l c (cell_at l m c)
 agrees w log m l c low r =
     in_runs w (λ es n. Agrees w es l c (cell_at l n c)) (record { sums = refl; owes = tt; alone = omega arith }) (λ es n g reached can k. agrees_if w es n g l c (each_reached w es n l low reached).content (c == g.event.cluster.0) refl low can reached k) log m r
 

@@ -45,11 +45,11 @@ event_first log e i k at = let f = found (slice_get log i) k at in ap (option_ma
 commit_first : (log : List Event) (e : Event) (i : ℕ) (h : HartId) (l : LineId) (v : ℕ) → IsCommitEvent log i h l v → IsCommitEvent (log ++ e ∷ []) i h l v
 commit_first log e i h l v c = record { kind = c.kind; at = event_first log e i c.kind c.at; is = c.is }
 
-given_first : (log : List Event) (e : Event) (i : ℕ) (c : ClusterId) (l : LineId) → IsGivenToOwn log i c l → IsGivenToOwn (log ++ e ∷ []) i c l
+pub given_first : (log : List Event) (e : Event) (i : ℕ) (c : ClusterId) (l : LineId) → IsGivenToOwn log i c l → IsGivenToOwn (log ++ e ∷ []) i c l
 given_first log e i c l g = record { event = g.event; at = at_first log e g.event i g.at; in_cluster = g.in_cluster; from = g.from; copy = g.copy; count = g.count; takes = g.takes }
 
 -- where one was given to own, in the log or by the last event
-given_by : (log : List Event) (e : Event) (i : ℕ) (c : ClusterId) (l : LineId) (g : IsGivenToOwn (log ++ e ∷ []) i c l) → (Gives e c l → ⊥) → Placed log e i g.event → IsGivenToOwn log i c l × (i < length log)
+pub given_by : (log : List Event) (e : Event) (i : ℕ) (c : ClusterId) (l : LineId) (g : IsGivenToOwn (log ++ e ∷ []) i c l) → (Gives e c l → ⊥) → Placed log e i g.event → IsGivenToOwn log i c l × (i < length log)
 given_by log e i c l g none (Before at low) = (record { event = g.event; at = at; in_cluster = g.in_cluster; from = g.from; copy = g.copy; count = g.count; takes = g.takes }, low)
 given_by log e i c l g none (Last at same) = absurd (none (subst (λ (x : Event). Gives x c l) same (record { in_cluster = g.in_cluster; from = g.from; copy = g.copy; count = g.count; takes = g.takes })))
 
@@ -82,7 +82,7 @@ since_was t log e h l none k = record {
 }
 
 -- no position is past the last
-past : (log : List Event) (e : Event) (i : ℕ) (f : Event) → Placed log e i f → length log < i → ⊥
+pub past : (log : List Event) (e : Event) (i : ℕ) (f : Event) → Placed log e i f → length log < i → ⊥
 past log e i f (Before at low) after = omega arith
 past log e i f (Last at same) after = omega arith
 

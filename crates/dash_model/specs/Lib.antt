@@ -34,6 +34,7 @@ pub mod LockFacts
 pub mod OnLine
 pub mod LineFacts
 pub mod OwedFacts
+pub mod PendingFacts
 pub mod BufferFacts
 pub mod MachineLaws
 pub mod ExampleLogs

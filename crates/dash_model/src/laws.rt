@@ -7,6 +7,7 @@ ghost use Rattle.dash_model.specs.LineFacts.{RunsKeepLines};
 ghost use Rattle.dash_model.specs.LockFacts.{MessagesAreInRange, LinesAreOfMemory, RunsKeepLocks, LocksAreCounted, LockUsesAreNumbered};
 ghost use Rattle.dash_model.specs.MachineLaws.{EventsFixEffects, LanesAreQueues, StepsChangeOnePart, StampsRise, CommitsAreNumbered, EventsHappen, LocalRunsGrow, MergesAreRuns};
 ghost use Rattle.dash_model.specs.OwedFacts.{RunsOweAsLogged};
+ghost use Rattle.dash_model.specs.PendingFacts.{PendingLinesAreKept};
 ghost use Rattle.dash_model.specs.TableAccesses.{RowsOfAccesses};
 ghost use Rattle.dash_model.specs.TableHarts.{RowsOfHarts};
 ghost use Rattle.dash_model.specs.TableHome.{RowsOfHome};
@@ -29,6 +30,13 @@ pub fn runs_keep_lines()
 /// the line since the cluster last took the line to own, while acknowledgements are due.
 pub fn runs_owe_as_logged()
     ensures { RunsOweAsLogged }
+{}
+
+/// In every run, while a cluster has a line to own and waits for acknowledgements of it, what it commits is
+/// nowhere else: no content in the home's memory, in another cluster's copy, in a slot, or on its way is of
+/// a version that was committed after the cluster last took the line to own.
+pub fn pending_lines_are_kept()
+    ensures { PendingLinesAreKept }
 {}
 
 /// In every run the stores of a hart are those that the log commits, in the order of their commits, and
