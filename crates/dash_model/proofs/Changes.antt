@@ -1,30 +1,22 @@
 -- What a step changes, and how stamps rise.
-use Rattle.std.proofs.Common.{◌≡◌, ◌≢◌, ◌⊎◌, ℕ, ◌<◌, ◌≤◌, ◌==◌, false, cond, max, List, [], ◌∷◌, map, refl, ap, ◌∙◌, inl, inr, arith}
+use Rattle.std.proofs.Common.{◌≡◌, ◌≢◌, ◌⊎◌, ℕ, ◌<◌, ◌≤◌, ◌==◌, false, cond, max, List, [], ◌∷◌, refl, ap, inl, inr, arith}
 use Rattle.std.proofs.lemmas.Bool.Decides.{nat_tests}
-use Rattle.dash_msg.specs.declared.classes.Class.{Class}
-use Rattle.dash_msg.specs.declared.parcel.Sent.{Sent}
 use Rattle.dash_msg.specs.declared.msg.Msg.TheVariants.{Unlock}
 use Rattle.dash_event.specs.declared.event.Kind.{Kind}
 use Rattle.dash_event.specs.declared.event.Kind.TheVariants.{Free, Take}
 use Rattle.dash_model.specs.Maps.{most, raised}
 use Rattle.dash_model.specs.Config.{Config}
-use Rattle.dash_model.specs.Net.{packet, in_lane, lane}
+use Rattle.dash_model.specs.Net.{lane}
 use Rattle.dash_model.specs.Part.{Part}
 use Rattle.dash_model.specs.Row.{row}
 use Rattle.dash_model.specs.Machine.{Machine, Step, stamp_of, taken, AtHead, less, part_after, CanHappen}
 use Rattle.dash_model.specs.LocalRun.{IsLocalRun, StampsFit}
 use Rattle.dash_model.specs.MachineLaws.{TakesHead, ChangesOnePart, StampsFrom, StampsOf}
 use Rattle.dash_model.proofs.Lanes.{lane-send}
+use Rattle.dash_model.proofs.Taking.{off_source}
 
 part_other : (m : Machine) (k c : ℕ) (q : Part) → c ≢ k → cond (c == k) q (m.parts c) ≡ m.parts c
 part_other m k c q n = let e : (c == k) ≡ false = grind (arith, nat_tests) in ap (λ t. cond t q (m.parts c)) e
-
-off_source : (a b : ℕ) (k : Class) (c t : ℕ) (ss : List Sent) → a ≢ c → lane a b k (map (packet t c) ss) ≡ []
-unfolding lane
-off_source a b k c t [] n = refl
-off_source a b k c t (s ∷ ss) n =
-    let e : in_lane a b k (packet t c s) ≡ false = grind (arith, nat_tests) in
-    ap (λ z. cond z (packet t c s ∷ lane a b k (map (packet t c) ss)) (lane a b k (map (packet t c) ss))) e ∙ off_source a b k c t ss n
 
 takes_by : (w : Config) (m : Machine) (g : Step) (k : Kind) → g.event.kind ≡ k → AtHead (taken g.event.cluster.0 g.stamp k) m.net
     → (taken g.event.cluster.0 g.stamp g.event.kind ≡ []) ⊎ TakesHead w m g

@@ -20,6 +20,7 @@ use Rattle.dash_model.specs.HartGuards.{Retires}
 use Rattle.dash_model.specs.Guard.{DoesIf, Guard}
 use Rattle.dash_model.specs.Row.{msg_row, msg_row_if, row}
 use Rattle.dash_model.specs.Machine.{Machine, Step, event_of, taken, less, CanHappen, after, opening, AreSteps, state_after, Reaches}
+use Rattle.dash_model.proofs.Lifted.{rest_events}
 
 same_done : (w : Config) (h : HartState) (a : ℕ) (d e : HartEffect) → Does w.image w.top h d.need a d.next → Does w.image w.top h e.need a e.next
     → d ≡ e
@@ -99,9 +100,6 @@ after_same w m g h e x y =
 head_same : (e f : Event) (es fs : List Event) → e ∷ es ≡ f ∷ fs → e ≡ f
 head_same e f es fs x = cc
 
-rest_same : (e f : Event) (es fs : List Event) → e ∷ es ≡ f ∷ fs → es ≡ fs
-rest_same e f es fs x = cc
-
 states_same : (w : Config) (m : Machine) (gs hs : List Step) → map event_of gs ≡ map event_of hs → AreSteps w m gs → AreSteps w m hs
     → state_after w m gs ≡ state_after w m hs
 states_same w m [] [] e x y = refl
@@ -109,7 +107,7 @@ states_same w m [] (h ∷ hs) e x y = absurd (cc)
 states_same w m (g ∷ gs) [] e x y = absurd (cc)
 states_same w m (g ∷ gs) (h ∷ hs) e x y =
     let one : after w m g ≡ after w m h = after_same w m g h (head_same g.event h.event (map event_of gs) (map event_of hs) e) x.0 y.0 in
-    states_same w (after w m g) gs hs (rest_same g.event h.event (map event_of gs) (map event_of hs) e) x.1 (subst (λ n. AreSteps w n hs) (sym one) y.1)
+    states_same w (after w m g) gs hs (rest_events g.event h.event (map event_of gs) (map event_of hs) e) x.1 (subst (λ n. AreSteps w n hs) (sym one) y.1)
     ∙ ap (λ n. state_after w n hs) one
 
 pub reach_same : (w : Config) (log : List Event) (m n : Machine) → Reaches w log m → Reaches w log n → m ≡ n

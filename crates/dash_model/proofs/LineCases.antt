@@ -25,7 +25,7 @@ use Rattle.dash_model.proofs.Taken.{case_applies}
 use Rattle.dash_model.proofs.Reached.{each_reached}
 
 -- what the head weighs, all do
-weighs : (a b u : ℕ) (m : Msg) (net : List Packet) (v : Packet → ℕ) → head a b (class_of m) net ≡ Some (parcel a b m u) → v (parcel a b m u) ≡ 1 → 1 ≤ weigh v net
+pub weighs : (a b u : ℕ) (m : Msg) (net : List Packet) (v : Packet → ℕ) → head a b (class_of m) net ≡ Some (parcel a b m u) → v (parcel a b m u) ≡ 1 → 1 ≤ weigh v net
 weighs a b u m net v h e = let c = cut a b (class_of m) (parcel a b m u) net h v in omega arith
 
 back_is_owner : (p : Place) (x : ℕ) → returns p x ≤ owner_in p x

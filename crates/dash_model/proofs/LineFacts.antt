@@ -268,7 +268,7 @@ all_at Q [] q all at = absurd at
 all_at Q (p ∷ ps) q all (inl e) = subst Q (sym e) all.0
 all_at Q (p ∷ ps) q all (inr i) = all_at Q ps q all.1 i
 
-carried_has : (P : Line → Type 0) (m : Msg) (d : Line) → Carries m d → MsgHas P m → P d
+pub carried_has : (P : Line → Type 0) (m : Msg) (d : Line) → Carries m d → MsgHas P m → P d
 carried_has P (WriteBack l x) d e h = subst P e h
 carried_has P (SharingBack l x r) d e h = subst P e h
 carried_has P (Data l x) d e h = subst P e h

@@ -11,7 +11,7 @@ use Rattle.dash_event.specs.declared.event.Kind.{Kind}
 use Rattle.dash_event.specs.declared.event.Kind.TheVariants as kind
 use Rattle.dash_model.specs.Maps.{weigh}
 use Rattle.dash_model.specs.Config.{Config, line_id, cluster_of}
-use Rattle.dash_model.specs.Net.{Packet, parcel, head}
+use Rattle.dash_model.specs.Net.{parcel, head}
 use Rattle.dash_model.specs.Cell.{Copy, Held, Asked, Poisoned, Came, Refused, Slot, NoSlot, Reads, Owns, Acks, NoAcks, Counting, Expects, Entry, Uncached, SharedBy, Dirty, Cell, Home}
 use Rattle.dash_model.specs.OnLine.{is_of, came_own, brings, counts_to, acks_to, naks}
 use Rattle.dash_model.specs.LineEffect.{LineEffect, still, has_owner}
@@ -22,11 +22,12 @@ use Rattle.dash_model.specs.LineRows.{take_row}
 use Rattle.dash_model.specs.Log.{Commits}
 use Rattle.dash_model.specs.Owed.{announced_by, acknowledged_by, taken_in}
 use Rattle.dash_model.proofs.LineState.{State, MayAct, content_after}
-use Rattle.dash_model.proofs.Weigh.{cut, weigh-only}
+use Rattle.dash_model.proofs.Weigh.{weigh-only}
 use Rattle.dash_model.proofs.Facts.{Place, holds, waits_own, waits_read, Counted, counting, Facts}
 use Rattle.dash_model.proofs.Rows.{brings_counts}
 use Rattle.dash_model.proofs.Tests.{same, is_same, one_same}
 use Rattle.dash_model.proofs.Alone.{no_owner}
+use Rattle.dash_model.proofs.LineCases.{weighs}
 
 -- the event counts nothing for the line, commits no version of it, and brings it to nobody to own
 pub record IsSilent (l : ℕ) (e : Kind) : Type 0 where
@@ -142,10 +143,6 @@ silent_off l f (DataEx k d n) e = record { announces = if_off (k.0 == l) n e; ac
 silent_off l f (Ack k) e = record { announces = refl; acknowledges = if_off (k.0 == l) 1 e; commits = λ h v x. x; gives = λ g d n q. absurd (cc) }
 silent_off l f (TransferAck k) e = record { announces = refl; acknowledges = if_off (k.0 == l) 1 e; commits = λ h v x. x; gives = λ g d n q. absurd (cc) }
 silent_off l f _ e = record { announces = refl; acknowledges = refl; commits = λ h v x. x; gives = λ g d n q. absurd (cc) }
-
--- a message that comes
-weighs : (a b u : ℕ) (m : Msg) (net : List Packet) (v : Packet → ℕ) → head a b (class_of m) net ≡ Some (parcel a b m u) → v (parcel a b m u) ≡ 1 → 1 ≤ weigh v net
-weighs a b u m net v h e = let c = cut a b (class_of m) (parcel a b m u) net h v in omega arith
 
 -- an acknowledgement finds an entry
 some_entry : (s : Slot) (n d h : ℕ) → Counted s NoAcks n d h → n ≡ 0

@@ -3,8 +3,7 @@ use Rattle.std.proofs.Common.{◌≡◌, ◌≢◌, ℕ, zero, suc, ◌+◌, ◌
 use Rattle.std.proofs.lemmas.Bool.Decides.{nat_tests}
 use Rattle.dash_base.specs.declared.id.ClusterId.{ClusterId}
 use Rattle.dash_base.specs.declared.line.Line.{Line}
-use Rattle.dash_msg.specs.declared.msg.Msg.{Msg}
-use Rattle.dash_msg.specs.declared.msg.Msg.TheVariants.{WriteBack, SharingBack, Data, DataEx}
+use Rattle.dash_msg.specs.declared.msg.Msg.TheVariants.{DataEx}
 use Rattle.dash_event.specs.declared.event.Event.{Event}
 use Rattle.dash_event.specs.declared.event.Kind.TheVariants as kind
 use Rattle.dash_model.specs.Maps.{weigh}
@@ -16,7 +15,7 @@ use Rattle.dash_model.specs.Replies.{counted}
 use Rattle.dash_model.specs.Log.{commits_of, commits_before}
 use Rattle.dash_model.specs.Owed.{IsGivenToOwn}
 use Rattle.dash_model.specs.Machine.{Machine, Step, part_after, CanHappen, after, Reaches}
-use Rattle.dash_model.specs.LineFacts.{cell_at, Carries}
+use Rattle.dash_model.specs.LineFacts.{cell_at}
 use Rattle.dash_model.specs.PendingFacts.{PendingLinesAreKept}
 use Rattle.dash_model.proofs.LineState.{State, IsNext, MayAct}
 use Rattle.dash_model.proofs.Along.{along, at}
@@ -36,6 +35,7 @@ use Rattle.dash_model.proofs.OwedStep.{cell_step}
 use Rattle.dash_model.proofs.OwedFacts.{agrees}
 use Rattle.dash_model.proofs.HiddenCopy.{hide, hide_all, shown_copy, shown_slot, take_hidden, act_hidden}
 use Rattle.dash_model.proofs.LineViews.{LineStep, Rests, Does_act, Takes_one, line_step}
+use Rattle.dash_model.proofs.LineFacts.{carried_has}
 
 -- positions
 take_all : (log more : List Event) → take (length log) (log ++ more) ≡ log
@@ -210,13 +210,6 @@ knows_by a NoAcks x d h f alone one some = absurd (some refl)
 knows_by a (Counting g o) x d h f alone one some = absurd (let q = counting_asks a.slot g o x d h f in let i = q.0 in let j = q.1 in omega arith)
 knows_by a (Expects n g o) x d h f alone one some = record { expected = n; got = g; owed = o; is = refl }
 
-carried : (P : Line → Type 0) (m : Msg) (d : Line) → Carries m d → MsgHas P m → P d
-carried P (WriteBack l x) d e h = subst P e h
-carried P (SharingBack l x r) d e h = subst P e h
-carried P (Data l x) d e h = subst P e h
-carried P (DataEx l x n) d e h = subst P e h
-carried P _ d e h = absurd e
-
 pub pending_lines_are_kept : PendingLinesAreKept
 pending_lines_are_kept w log m l c low r pending =
     let i = each_reached w log m l low r in
@@ -232,5 +225,5 @@ pending_lines_are_kept w log m l c low r pending =
       copies = λ x hs o d off is. subst (CopyHas P) is (shown_copy P c s x k.beyond off);
       to_read = λ x n h d is. subst (SlotHas P) is (shown_slot P c s x k.beyond);
       to_own = λ x n h d is. subst (SlotHas P) is (shown_slot P c s x k.beyond);
-      messages = λ q d on_way carries. carried P q.msg d carries (all-member (λ p. MsgHas P p.msg) q (on l m.net) on_way k.beyond.net);
+      messages = λ q d on_way carries. carried_has P q.msg d carries (all-member (λ p. MsgHas P p.msg) q (on l m.net) on_way k.beyond.net);
     }

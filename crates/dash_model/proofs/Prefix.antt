@@ -4,12 +4,10 @@ use Rattle.dash_event.specs.declared.event.Event.{Event}
 use Rattle.dash_model.specs.Config.{Config}
 use Rattle.dash_model.specs.Machine.{Machine, Step, event_of, CanHappen, after, opening, AreSteps, state_after, PrecedesAll, IsRising, IsRun}
 use Rattle.dash_model.specs.MachineLaws.{HappensAfter}
+use Rattle.dash_model.proofs.Lifted.{rest_events}
 
 head_same : (e f : Event) (es fs : List Event) → e ∷ es ≡ f ∷ fs → e ≡ f
 head_same e f es fs x = cc
-
-rest_same : (e f : Event) (es fs : List Event) → e ∷ es ≡ f ∷ fs → es ≡ fs
-rest_same e f es fs x = cc
 
 -- the steps before an event, and its own
 pub record Split (w : Config) (m : Machine) (before : List Event) (e : Event) : Type 0 where
@@ -27,7 +25,7 @@ split w m [] rest e (g ∷ gs) q s =
     record { firsts = []; step = g; events = refl; is = head_same g.event e (map event_of gs) rest q; happen = tt; can = s.0 }
 split w m (b ∷ bs) rest e [] q s = absurd (cc)
 split w m (b ∷ bs) rest e (g ∷ gs) q s =
-    let r = split w (after w m g) bs rest e gs (rest_same g.event b (map event_of gs) (bs ++ (e ∷ rest)) q) s.1 in
+    let r = split w (after w m g) bs rest e gs (rest_events g.event b (map event_of gs) (bs ++ (e ∷ rest)) q) s.1 in
     record {
       firsts = g ∷ r.firsts;
       step = r.step;
