@@ -6,7 +6,6 @@ use Rattle.dash_event.specs.declared.event.Kind.{Kind}
 use Rattle.dash_event.specs.declared.event.Kind.TheVariants.{Free, Take}
 use Rattle.dash_model.specs.Maps.{most, raised}
 use Rattle.dash_model.specs.Config.{Config}
-use Rattle.dash_model.specs.Net.{lane}
 use Rattle.dash_model.specs.Part.{Part}
 use Rattle.dash_model.specs.Row.{row}
 use Rattle.dash_model.specs.Machine.{Machine, Step, stamp_of, taken, AtHead, less, part_after, CanHappen}

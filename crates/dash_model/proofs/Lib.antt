@@ -47,6 +47,7 @@ pub mod Prefix
 pub mod Numbered
 pub mod Tests
 pub mod InRuns
+pub mod Happened
 pub mod Nowhere
 pub mod Each
 pub mod LockViews
