@@ -1,0 +1,5 @@
+pub mod Same
+pub mod Lists
+pub mod Copies
+pub mod Lines
+pub mod Harts
