@@ -54,6 +54,8 @@ pub mod LockViews
 pub mod LockRange
 pub mod InRange
 pub mod Totals
+pub mod Weights
+pub mod Falls
 pub mod HartSteps
 pub mod LineCases
 pub mod LockCases

@@ -8,6 +8,7 @@ ghost use Rattle.dash_model.specs.LockFacts.{MessagesAreInRange, LinesAreOfMemor
 ghost use Rattle.dash_model.specs.MachineLaws.{EventsFixEffects, LanesAreQueues, StepsChangeOnePart, StampsRise, CommitsAreNumbered, EventsHappen, LocalRunsGrow, MergesAreRuns};
 ghost use Rattle.dash_model.specs.OwedFacts.{RunsOweAsLogged};
 ghost use Rattle.dash_model.specs.PendingFacts.{PendingLinesAreKept};
+ghost use Rattle.dash_model.specs.Settling.{WeightFalls};
 ghost use Rattle.dash_model.specs.TableAccesses.{RowsOfAccesses};
 ghost use Rattle.dash_model.specs.TableHarts.{RowsOfHarts};
 ghost use Rattle.dash_model.specs.TableHome.{RowsOfHome};
@@ -83,6 +84,14 @@ pub fn locks_are_counted()
 /// In a run each access of a lock word that is granted or freed is shown how many were before it.
 pub fn lock_uses_are_numbered()
     ensures { LockUsesAreNumbered }
+{}
+
+/// In every run each message that is taken, each Unlock that is served, each grant of a lock word, each line
+/// that is installed, and each eviction of what is in the way of a line that came lowers the weight of the
+/// machine. None of them asks for a line: no message that asks for one is sent, and no slot asks that had not
+/// asked before, so a refused one does not ask again.
+pub fn weight_falls()
+    ensures { WeightFalls }
 {}
 
 /// Each event fixes its effect: what its fields leave out makes no difference.
