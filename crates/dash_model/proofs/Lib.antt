@@ -48,6 +48,12 @@ pub mod Numbered
 pub mod Tests
 pub mod InRuns
 pub mod Happened
+pub mod Earlier
+pub mod Entries
+pub mod Turns
+pub mod StoreOrder
+pub mod VersionsCount
+pub mod CommitsFollow
 pub mod Nowhere
 pub mod Each
 pub mod LockViews
