@@ -54,6 +54,7 @@ pub mod Turns
 pub mod StoreOrder
 pub mod VersionsCount
 pub mod CommitsFollow
+pub mod OwnStores
 pub mod Nowhere
 pub mod Each
 pub mod LockViews
