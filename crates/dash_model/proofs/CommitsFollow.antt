@@ -31,9 +31,9 @@ committed_before w log i e a b k =
     let there = from_before w log i e a k.at (kind.Commit b.hart b.number k.line k.version) k.is_at in
     record { at = k.at; line = k.line; version = k.version; is_at = there.0; before = there.1 }
 
-fits : (w : Config) (c : ℕ) (g : HartId) (n : ℕ) (k : LineId) (v : ℕ) (d : HartEffect) (p : Part) → Guard w c (kind.Commit g n k v) d p → CommitFits w c g.0 n k.0 v p
+pub commit_fits : (w : Config) (c : ℕ) (g : HartId) (n : ℕ) (k : LineId) (v : ℕ) (d : HartEffect) (p : Part) → Guard w c (kind.Commit g n k v) d p → CommitFits w c g.0 n k.0 v p
 unfolding Guard
-fits w c g n k v d p can = can
+commit_fits w c g n k v d p can = can
 
 -- a commit of a run: the oldest store that waits, in what the events before it made of the hart's stores
 record Leaving (w : Config) (log : List Event) (i : ℕ) (g : HartId) (n : ℕ) (k : LineId) (v : ℕ) : Type 0 where
@@ -52,7 +52,7 @@ leaving w log i g n k v r at =
     let a = happened w log i (kind.Commit g n k v) r at in
     let c = a.step.event.cluster.0 in
     let p = a.state.parts c in
-    let can = fits w c g n k v a.step.done p (guard_of w log i (kind.Commit g n k v) a) in
+    let can = commit_fits w c g n k v a.step.done p (guard_of w log i (kind.Commit g n k v) a) in
     let o : Ordered w a.before g.0 (p.harts g.0) = subst (λ z. Ordered w a.before g.0 ((a.state.parts z).harts g.0)) can.mine (ordered w a.before a.state g.0 a.reached) in
     let first : IsIn can.oldest (p.harts g.0).buffer = subst (IsIn can.oldest) (sym can.buffer) (inl refl) in
     record {

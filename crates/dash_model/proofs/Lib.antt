@@ -55,6 +55,7 @@ pub mod StoreOrder
 pub mod VersionsCount
 pub mod CommitsFollow
 pub mod OwnStores
+pub mod DrainedHarts
 pub mod Nowhere
 pub mod Each
 pub mod LockViews

@@ -1,8 +1,7 @@
 -- In every run who is shown a version of a line has no store of the word left to commit, and a load that is shown its hart's own store is shown the newest.
-use Rattle.std.proofs.Common.{◌≡◌, ℕ, ◌+◌, ◌<◌, ◌≤◌, Bool, true, false, if◌then◌else◌, Option, None, Some, List, [], ◌∷◌, ◌⊎◌, inl, inr, unwrap_or, refl, sym, ap, ◌∙◌, subst, arith}
+use Rattle.std.proofs.Common.{◌≡◌, ℕ, ◌<◌, Bool, true, false, if◌then◌else◌, Option, None, Some, List, [], ◌∷◌, inl, inr, unwrap_or, refl, sym, ap, ◌∙◌, subst, arith}
 use Rattle.dash_base.specs.Words.{has_byte}
 use Rattle.dash_base.specs.declared.id.HartId.{HartId}
-use Rattle.dash_base.specs.declared.id.LineId.{LineId}
 use Rattle.dash_base.specs.declared.id.WordAddr.{WordAddr}
 use Rattle.dash_base.specs.declared.instr.Labels.{Labels}
 use Rattle.dash_base.specs.declared.need.Need.{Need}
@@ -20,17 +19,17 @@ use Rattle.write_buffer.specs.declared.entry.Entry.{Entry as Stored}
 use Rattle.write_buffer.specs.declared.entry.Look.TheVariants.{Hit, Wait}
 use Rattle.write_buffer.proofs.LawsOffered.{covers-has_byte}
 use Rattle.dash_model.specs.Config.{Config, cluster_of}
-use Rattle.dash_model.specs.Part.{Processor, Part}
+use Rattle.dash_model.specs.Part.{Part}
 use Rattle.dash_model.specs.HartRows.{HartEffect, entry_of}
 use Rattle.dash_model.specs.HartGuards.{number_of, FromBuffer, LoadsBy, LoadFits}
 use Rattle.dash_model.specs.Guard.{Guard}
 use Rattle.dash_model.specs.Machine.{IsRun}
 use Rattle.dash_model.specs.Log.{IsEventAt, IsShown}
 use Rattle.dash_model.specs.Coherent.{IsCommittedBefore, IsShownOwn}
-use Rattle.dash_model.proofs.Happened.{Happened, happened}
+use Rattle.dash_model.proofs.Happened.{happened}
 use Rattle.dash_model.proofs.Earlier.{into_before, from_before, guard_of}
-use Rattle.dash_model.proofs.Entries.{IsIn, IsNewest, no_newest, newest}
-use Rattle.dash_model.proofs.StoreOrder.{IsCommitted, IsStore, Ordered, ordered}
+use Rattle.dash_model.proofs.Entries.{no_newest, newest}
+use Rattle.dash_model.proofs.StoreOrder.{Ordered, ordered}
 use Rattle.dash_model.proofs.CommitsFollow.{committed_before, stores_rise}
 
 same_access : (a b : Access) → b ∷ [] ≡ a ∷ [] → b ≡ a

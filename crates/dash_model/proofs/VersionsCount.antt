@@ -43,7 +43,7 @@ rmw_shows_last w log r i b k v at =
     let n = rmw_numbered w a.before (map event_of a.follow) a.step.event b k v (whole w log i (kind.Rmw b k v) a r) a.is in
     (version_of a.before k.0, n.1, n.0)
 
-line_is : (w : Config) (c : ℕ) (a : Access) (k : LineId) (v : ℕ) (d : HartEffect) (p : Part) → Guard w c (kind.Rmw a k v) d p → line_at w a.word.0 ≡ k.0
+pub line_is : (w : Config) (c : ℕ) (a : Access) (k : LineId) (v : ℕ) (d : HartEffect) (p : Part) → Guard w c (kind.Rmw a k v) d p → line_at w a.word.0 ≡ k.0
 unfolding Guard
 line_is w c a k v d p can = can.line
 
