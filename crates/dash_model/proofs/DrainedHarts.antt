@@ -107,8 +107,9 @@ stores_are_committed w log r i h j b release there mine low =
     let k = rests w c e h a.step.done p (guard_of w log i e a) release.is in
     let o : Ordered w a.before h.0 (p.harts h.0) = subst (λ z. Ordered w a.before h.0 ((a.state.parts z).harts h.0)) k.mine (ordered w a.before a.state h.0 a.reached) in
     elim (o.stored j b (into_before w log i e a j (kind.Store b) there low) (ap (λ (z : HartId). z.0) mine)) [
-        inl waits ↦ absurd (no_entry (entry_of b) (p.harts h.0).buffer k.drained.buffer waits)
-      | inr done ↦ committed_before w log i e a b done ]
+      | inl waits ↦ absurd (no_entry (entry_of b) (p.harts h.0).buffer k.drained.buffer waits)
+      | inr done ↦ committed_before w log i e a b done
+    ]
 
 -- what a log commits is a version of a line of memory
 commit_inside : (w : Config) (log : List Event) (i : ℕ) (e : Kind) (h : HartId) (k : LineId) (v : ℕ) → IsRun w log → IsEventAt log i e → Commits e h k v → k.0 < lines w

@@ -71,6 +71,7 @@ pub mod Retired
 pub mod Asking
 pub mod Serving
 pub mod LockCounts
+pub mod LockChain
 pub mod Targets
 pub mod TableCode
 pub mod TableCells

@@ -80,8 +80,9 @@ own_stores_are_committed w log r i a v j b shown there low hart word =
     let y = past w c e x.step.done p a v (guard_of w log i e x) shown.event.is shown.seen in
     let o : Ordered w x.before a.hart.0 (p.harts a.hart.0) = subst (λ z. Ordered w x.before a.hart.0 ((x.state.parts z).harts a.hart.0)) y.mine (ordered w x.before x.state a.hart.0 x.reached) in
     elim (o.stored j b (into_before w log i e x j (kind.Store b) there low) (ap (λ (h : HartId). h.0) hart)) [
-        inl waits ↦ absurd (no_newest a.word.0 (p.harts a.hart.0).buffer (entry_of b) y.none waits (ap (λ (z : WordAddr). z.0) word))
-      | inr done ↦ committed_before w log i e x b done ]
+      | inl waits ↦ absurd (no_newest a.word.0 (p.harts a.hart.0).buffer (entry_of b) y.none waits (ap (λ (z : WordAddr). z.0) word))
+      | inr done ↦ committed_before w log i e x b done
+    ]
 
 -- a load that is shown the hart's own store
 record IsHit (w : Config) (a : Access) (level : ℕ) (reserve : Bool) (d : HartEffect) (p : Part) (number : ℕ) (o : Option Stored) : Type 0 where
@@ -146,8 +147,9 @@ own_is_newest w log r i a level n at shown =
       newest = λ j b at_b hart of_word after low.
           let rises = stores_rise w log r s.at j s.store b there.0 at_b (s.of_hart ∙ sym (ap (λ (h : HartId). h.0) hart)) after in
           elim (o.stored j b (into_before w log i e x j (kind.Store b) at_b low) (ap (λ (h : HartId). h.0) hart)) [
-              inl waits ↦ (let most = best.least (entry_of b) waits (ap (λ (z : WordAddr). z.0) of_word) in absurd (omega arith))
-            | inr done ↦ (let passed = o.passed done.at b.hart b.number done.line done.version done.is_at (ap (λ (h : HartId). h.0) hart) y.store best.inside in absurd (omega arith)) ];
+            | inl waits ↦ (let most = best.least (entry_of b) waits (ap (λ (z : WordAddr). z.0) of_word) in absurd (omega arith))
+            | inr done ↦ (let passed = o.passed done.at b.hart b.number done.line done.version done.is_at (ap (λ (h : HartId). h.0) hart) y.store best.inside in absurd (omega arith))
+          ];
       covers = λ k low has. subst (λ m. has_byte m k ≡ true) (sym (ap (λ (z : Stored). z.mask) s.entry)) (covers-has_byte y.store.mask a.mask k y.covers has);
       written = value_of s.store.written s.writes.value y.store.value s.writes.written (ap (λ (z : Stored). z.value) s.entry);
       read = load_reads a.hart.0 (number_of a.hart.0 p) d.need a a.word a.mask can.labels can.reserve y.store.value false can.next.need_is y.from.access.made;
