@@ -23,7 +23,7 @@ use Rattle.dash_model.proofs.Stores.{store_mine}
 use Rattle.dash_model.proofs.Happened.{Happened, happened}
 use Rattle.dash_model.proofs.Earlier.{into_before, from_before, guard_of}
 use Rattle.dash_model.proofs.Entries.{IsIn, NumbersRise}
-use Rattle.dash_model.proofs.StoreOrder.{IsCommitted, IsStore, Ordered, ordered}
+use Rattle.dash_model.proofs.StoreOrder.{IsCommitted, IsStore, ordered_at}
 
 -- a store that is committed in the events before a position
 pub committed_before : (w : Config) (log : List Event) (i : ℕ) (e : Kind) (a : Happened w log i e) (b : Access) → IsCommitted a.before b → IsCommittedBefore log b i
@@ -53,7 +53,7 @@ leaving w log i g n k v r at =
     let c = a.step.event.cluster.0 in
     let p = a.state.parts c in
     let can = commit_fits w c g n k v a.step.done p (guard_of w log i (kind.Commit g n k v) a) in
-    let o : Ordered w a.before g.0 (p.harts g.0) = subst (λ z. Ordered w a.before g.0 ((a.state.parts z).harts g.0)) can.mine (ordered w a.before a.state g.0 a.reached) in
+    let o = ordered_at w log i (kind.Commit g n k v) a g.0 can.mine in
     let first : IsIn can.oldest (p.harts g.0).buffer = subst (IsIn can.oldest) (sym can.buffer) (inl refl) in
     record {
       place = a;
@@ -108,9 +108,8 @@ joining w log i b r at =
     let c = a.step.event.cluster.0 in
     let p = a.state.parts c in
     let can = guard_of w log i (kind.Store b) a in
-    let mine = store_mine w c b a.step.done p can in
     let number = new_number w c b a.step.done p can in
-    let o : Ordered w a.before b.hart.0 (p.harts b.hart.0) = subst (λ z. Ordered w a.before b.hart.0 ((a.state.parts z).harts b.hart.0)) mine (ordered w a.before a.state b.hart.0 a.reached) in
+    let o = ordered_at w log i (kind.Store b) a b.hart.0 (store_mine w c b a.step.done p can) in
     record {
       stores = λ j x there low of_b. (let z = o.retired j x (into_before w log i (kind.Store b) a j (kind.Store x) there low) of_b in omega arith);
       commits = λ j g n k v there low of_b. (let z = o.reached j g n k v (into_before w log i (kind.Store b) a j (kind.Commit g n k v) there low) of_b in omega arith);

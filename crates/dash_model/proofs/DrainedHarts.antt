@@ -40,7 +40,7 @@ use Rattle.dash_model.proofs.OwedFacts.{runs_owe_as_logged}
 use Rattle.dash_model.proofs.Happened.{happened, before_is}
 use Rattle.dash_model.proofs.Earlier.{into_before, guard_of}
 use Rattle.dash_model.proofs.Entries.{IsIn}
-use Rattle.dash_model.proofs.StoreOrder.{Ordered, ordered}
+use Rattle.dash_model.proofs.StoreOrder.{ordered_at}
 use Rattle.dash_model.proofs.CommitsFollow.{committed_before, commit_fits}
 use Rattle.dash_model.proofs.VersionsCount.{line_is}
 use Rattle.write_buffer.specs.declared.entry.Entry.{Entry as Stored}
@@ -105,7 +105,7 @@ stores_are_committed w log r i h j b release there mine low =
     let c = a.step.event.cluster.0 in
     let p = a.state.parts c in
     let k = rests w c e h a.step.done p (guard_of w log i e a) release.is in
-    let o : Ordered w a.before h.0 (p.harts h.0) = subst (λ z. Ordered w a.before h.0 ((a.state.parts z).harts h.0)) k.mine (ordered w a.before a.state h.0 a.reached) in
+    let o = ordered_at w log i e a h.0 k.mine in
     elim (o.stored j b (into_before w log i e a j (kind.Store b) there low) (ap (λ (z : HartId). z.0) mine)) [
       | inl waits ↦ absurd (no_entry (entry_of b) (p.harts h.0).buffer k.drained.buffer waits)
       | inr done ↦ committed_before w log i e a b done

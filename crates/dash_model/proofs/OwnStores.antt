@@ -19,17 +19,17 @@ use Rattle.write_buffer.specs.declared.entry.Entry.{Entry as Stored}
 use Rattle.write_buffer.specs.declared.entry.Look.TheVariants.{Hit, Wait}
 use Rattle.write_buffer.proofs.LawsOffered.{covers-has_byte}
 use Rattle.dash_model.specs.Config.{Config, cluster_of}
-use Rattle.dash_model.specs.Part.{Part}
+use Rattle.dash_model.specs.Part.{Processor, Part}
 use Rattle.dash_model.specs.HartRows.{HartEffect, entry_of}
 use Rattle.dash_model.specs.HartGuards.{number_of, FromBuffer, LoadsBy, LoadFits}
 use Rattle.dash_model.specs.Guard.{Guard}
 use Rattle.dash_model.specs.Machine.{IsRun}
 use Rattle.dash_model.specs.Log.{IsEventAt, IsShown}
 use Rattle.dash_model.specs.Coherent.{IsCommittedBefore, IsShownOwn}
-use Rattle.dash_model.proofs.Happened.{happened}
+use Rattle.dash_model.proofs.Happened.{Happened, happened}
 use Rattle.dash_model.proofs.Earlier.{into_before, from_before, guard_of}
-use Rattle.dash_model.proofs.Entries.{no_newest, newest}
-use Rattle.dash_model.proofs.StoreOrder.{Ordered, ordered}
+use Rattle.dash_model.proofs.Entries.{IsNewest, no_newest, newest}
+use Rattle.dash_model.proofs.StoreOrder.{IsStore, Ordered, ordered_at}
 use Rattle.dash_model.proofs.CommitsFollow.{committed_before, stores_rise}
 
 same_access : (a b : Access) → b ∷ [] ≡ a ∷ [] → b ≡ a
@@ -78,7 +78,7 @@ own_stores_are_committed w log r i a v j b shown there low hart word =
     let c = x.step.event.cluster.0 in
     let p = x.state.parts c in
     let y = past w c e x.step.done p a v (guard_of w log i e x) shown.event.is shown.seen in
-    let o : Ordered w x.before a.hart.0 (p.harts a.hart.0) = subst (λ z. Ordered w x.before a.hart.0 ((x.state.parts z).harts a.hart.0)) y.mine (ordered w x.before x.state a.hart.0 x.reached) in
+    let o = ordered_at w log i e x a.hart.0 y.mine in
     elim (o.stored j b (into_before w log i e x j (kind.Store b) there low) (ap (λ (h : HartId). h.0) hart)) [
       | inl waits ↦ absurd (no_newest a.word.0 (p.harts a.hart.0).buffer (entry_of b) y.none waits (ap (λ (z : WordAddr). z.0) word))
       | inr done ↦ committed_before w log i e x b done
@@ -118,42 +118,57 @@ value_of : (o : Option ℕ) (x y : ℕ) → o ≡ Some x → unwrap_or o 0 ≡ y
 value_of (Some z) x y is e = ap Some e
 value_of None x y is e = absurd (cc)
 
+-- the newest store of the word in the buffer, which has all bytes that are meant
+module _ (w : Config) (log : List Event) (r : IsRun w log) (i : ℕ) (e : Kind) (x : Happened w log i e) (a : Access) (p : Processor) (o : Ordered w x.before a.hart.0 p)
+    (y : Stored) (best : IsNewest a.word.0 p.buffer y) (s : IsStore w x.before a.hart.0 y) where
+  none_newer : (j : ℕ) (b : Access) → IsEventAt log j (kind.Store b) → b.hart ≡ a.hart → b.word ≡ a.word → s.at < j → j < i → ⊥
+  none_newer j b at hart word after low =
+      let mine = ap (λ (h : HartId). h.0) hart in
+      let first = from_before w log i e x s.at (kind.Store s.store) s.is_at in
+      let rises = stores_rise w log r s.at j s.store b first.0 at (s.of_hart ∙ sym mine) after in
+      let number = ap (λ (z : Stored). z.number) s.entry in
+      elim (o.stored j b (into_before w log i e x j (kind.Store b) at low) mine) [
+        | inl waits ↦ (let most = best.least (entry_of b) waits (ap (λ (z : WordAddr). z.0) word) in absurd (omega arith))
+        | inr done ↦ (let passed = o.passed done.at b.hart b.number done.line done.version done.is_at mine y best.inside in absurd (omega arith))
+      ]
+
+  not_committed : IsCommittedBefore log s.store i → ⊥
+  not_committed done =
+      let commit = kind.Commit s.store.hart s.store.number done.line done.version in
+      let passed = o.passed done.at s.store.hart s.store.number done.line done.version (into_before w log i e x done.at commit done.is_at done.before) s.of_hart y best.inside in
+      let number = ap (λ (z : Stored). z.number) s.entry in
+      absurd (omega arith)
+
+  shown_own : (n : ℕ) → covers y.mask a.mask ≡ true → y.number ≡ n → a.read ≡ Some (bytes_under a.mask y.value) → IsShownOwn log i a n
+  shown_own n all number read =
+      let there = from_before w log i e x s.at (kind.Store s.store) s.is_at in
+      let hart = s.of_hart in
+      let word : s.store.word.0 ≡ a.word.0 = ap (λ (z : Stored). z.word.0) s.entry ∙ best.word in
+      let mask : s.store.mask ≡ y.mask = ap (λ (z : Stored). z.mask) s.entry in
+      record {
+        at = s.at;
+        store = s.store;
+        value = y.value;
+        is_at = there.0;
+        before = there.1;
+        of_hart = λ z. record { 0 = hart z };
+        of_word = λ z. record { 0 = word z };
+        of_number = ap (λ (z : Stored). z.number) s.entry ∙ number;
+        newest = none_newer;
+        covers = λ k low has. subst (λ m. has_byte m k ≡ true) (sym mask) (covers-has_byte y.mask a.mask k all has);
+        written = value_of s.store.written s.writes.value y.value s.writes.written (ap (λ (z : Stored). z.value) s.entry);
+        read = read;
+        not_yet = not_committed;
+      }
+
 pub own_is_newest : (w : Config) (log : List Event) → IsRun w log
     → (i : ℕ) (a : Access) (level number : ℕ) → IsEventAt log i (kind.Load a level) → a.seen ≡ seen.Own number → IsShownOwn log i a number
 own_is_newest w log r i a level n at shown =
-    let e = kind.Load a level in
-    let x = happened w log i e r at in
-    let c = x.step.event.cluster.0 in
-    let p = x.state.parts c in
-    let d = x.step.done in
-    let buffer = (p.harts a.hart.0).buffer in
-    let can = fits w c a level d p (guard_of w log i e x) in
-    let o : Ordered w x.before a.hart.0 (p.harts a.hart.0) = subst (λ z. Ordered w x.before a.hart.0 ((x.state.parts z).harts a.hart.0)) can.next.mine (ordered w x.before x.state a.hart.0 x.reached) in
-    let y = hit w a level can.reserve d p n (newest_of a.word.0 buffer) can.from shown in
-    let best = newest a.word.0 buffer y.store o.rising y.is in
-    let s = o.waiting y.store best.inside in
-    let there = from_before w log i e x s.at (kind.Store s.store) s.is_at in
-    let number : s.store.number ≡ y.store.number = ap (λ (z : Stored). z.number) s.entry in
-    let word : s.store.word.0 ≡ a.word.0 = ap (λ (z : Stored). z.word.0) s.entry ∙ best.word in
-    record {
-      at = s.at;
-      store = s.store;
-      value = y.store.value;
-      is_at = there.0;
-      before = there.1;
-      of_hart = (let q = s.of_hart in λ z. record { 0 = q z });
-      of_word = λ z. record { 0 = word z };
-      of_number = number ∙ y.of_number;
-      newest = λ j b at_b hart of_word after low.
-          let rises = stores_rise w log r s.at j s.store b there.0 at_b (s.of_hart ∙ sym (ap (λ (h : HartId). h.0) hart)) after in
-          elim (o.stored j b (into_before w log i e x j (kind.Store b) at_b low) (ap (λ (h : HartId). h.0) hart)) [
-            | inl waits ↦ (let most = best.least (entry_of b) waits (ap (λ (z : WordAddr). z.0) of_word) in absurd (omega arith))
-            | inr done ↦ (let passed = o.passed done.at b.hart b.number done.line done.version done.is_at (ap (λ (h : HartId). h.0) hart) y.store best.inside in absurd (omega arith))
-          ];
-      covers = λ k low has. subst (λ m. has_byte m k ≡ true) (sym (ap (λ (z : Stored). z.mask) s.entry)) (covers-has_byte y.store.mask a.mask k y.covers has);
-      written = value_of s.store.written s.writes.value y.store.value s.writes.written (ap (λ (z : Stored). z.value) s.entry);
-      read = load_reads a.hart.0 (number_of a.hart.0 p) d.need a a.word a.mask can.labels can.reserve y.store.value false can.next.need_is y.from.access.made;
-      not_yet = λ done.
-          let passed = o.passed done.at s.store.hart s.store.number done.line done.version (into_before w log i e x done.at (kind.Commit s.store.hart s.store.number done.line done.version) done.is_at done.before) s.of_hart y.store best.inside in
-          absurd (omega arith);
-    }
+    let x = happened w log i (kind.Load a level) r at in
+    let p = x.state.parts x.step.event.cluster.0 in
+    let can = fits w x.step.event.cluster.0 a level x.step.done p (guard_of w log i (kind.Load a level) x) in
+    let o = ordered_at w log i (kind.Load a level) x a.hart.0 can.next.mine in
+    let y = hit w a level can.reserve x.step.done p n (newest_of a.word.0 (p.harts a.hart.0).buffer) can.from shown in
+    let best = newest a.word.0 (p.harts a.hart.0).buffer y.store o.rising y.is in
+    shown_own w log r i (kind.Load a level) x a (p.harts a.hart.0) o y.store best (o.waiting y.store best.inside) n y.covers y.of_number
+    (load_reads a.hart.0 (number_of a.hart.0 p) x.step.done.need a a.word a.mask can.labels can.reserve y.store.value false can.next.need_is y.from.access.made)

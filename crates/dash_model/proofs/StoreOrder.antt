@@ -7,7 +7,7 @@ use Rattle.dash_event.specs.declared.event.Event.{Event}
 use Rattle.dash_event.specs.declared.event.Kind.{Kind}
 use Rattle.dash_event.specs.declared.event.Kind.TheVariants as kind
 use Rattle.write_buffer.specs.declared.entry.Entry.{Entry as Stored}
-use Rattle.dash_model.specs.Config.{Config}
+use Rattle.dash_model.specs.Config.{Config, cluster_of}
 use Rattle.dash_model.specs.Part.{Processor}
 use Rattle.dash_model.specs.HartRows.{entry_of}
 use Rattle.dash_model.specs.Guard.{Guard}
@@ -20,6 +20,7 @@ use Rattle.dash_model.proofs.Stores.{store_writes}
 use Rattle.dash_model.proofs.BufferFacts.{no_store, no_commit}
 use Rattle.dash_model.proofs.HartRuns.{hart_at, IsKept, reached_keeps}
 use Rattle.dash_model.proofs.Tests.{same}
+use Rattle.dash_model.proofs.Happened.{Happened}
 use Rattle.dash_model.proofs.Earlier.{Earlier, Latest, stands, event_kept, event_last}
 use Rattle.dash_model.proofs.Entries.{IsIn, in_first, in_last, in_more, NumbersRise, rise_more}
 use Rattle.dash_model.proofs.Turns.{Turn, Idles, Leaves, Joins, turn}
@@ -153,7 +154,7 @@ ordered_kept w = record {
   other = λ c log e d p h s other can k. idles w log e h s s k (no_store w c e.kind d p h other can) (no_commit w c e.kind d p h other can) refl (omega arith);
 }
 
-pub ordered : (w : Config) (log : List Event) (m : Machine) (h : ℕ) → Reaches w log m → Ordered w log h (hart_at w m h)
+ordered : (w : Config) (log : List Event) (m : Machine) (h : ℕ) → Reaches w log m → Ordered w log h (hart_at w m h)
 ordered w log m h r = reached_keeps w (Ordered w) (ordered_kept w) log m r h (record {
   retired = λ j b at mine. absurd (cc);
   stored = λ j b at mine. absurd (cc);
@@ -162,3 +163,7 @@ ordered w log m h r = reached_keeps w (Ordered w) (ordered_kept w) log m r h (re
   waiting = λ x in_b. absurd in_b;
   rising = tt;
 })
+
+-- the stores of a hart of the cluster at which something happens, by the events before it
+pub ordered_at : (w : Config) (log : List Event) (i : ℕ) (e : Kind) (a : Happened w log i e) (h : ℕ) → cluster_of w h ≡ a.step.event.cluster.0 → Ordered w a.before h ((a.state.parts a.step.event.cluster.0).harts h)
+ordered_at w log i e a h mine = subst (λ z. Ordered w a.before h ((a.state.parts z).harts h)) mine (ordered w a.before a.state h a.reached)
