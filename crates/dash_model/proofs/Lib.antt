@@ -48,6 +48,14 @@ pub mod Numbered
 pub mod Tests
 pub mod InRuns
 pub mod Happened
+pub mod Earlier
+pub mod Entries
+pub mod Turns
+pub mod StoreOrder
+pub mod VersionsCount
+pub mod CommitsFollow
+pub mod OwnStores
+pub mod DrainedHarts
 pub mod Nowhere
 pub mod Each
 pub mod LockViews
@@ -65,6 +73,7 @@ pub mod Retired
 pub mod Asking
 pub mod Serving
 pub mod LockCounts
+pub mod LockChain
 pub mod Targets
 pub mod TableCode
 pub mod TableCells
