@@ -18,7 +18,7 @@ events_more : (gs : List Step) (g : Step) → map event_of (gs ++ g ∷ []) ≡ 
 events_more [] g = refl
 events_more (x ∷ xs) g = ap (λ es. x.event ∷ es) (events_more xs g)
 
-reaches_more : (w : Config) (log : List Event) (m : Machine) (g : Step) → Reaches w log m → CanHappen w m g → IsRising (log ++ g.event ∷ []) → Reaches w (log ++ g.event ∷ []) (after w m g)
+pub reaches_more : (w : Config) (log : List Event) (m : Machine) (g : Step) → Reaches w log m → CanHappen w m g → IsRising (log ++ g.event ∷ []) → Reaches w (log ++ g.event ∷ []) (after w m g)
 reaches_more w log m g r can rising = record {
   run = record {
     steps = r.run.steps ++ g ∷ [];
@@ -33,7 +33,7 @@ reaches_more w log m g r can rising = record {
 abbrev pub Keeps : Config → (List Event → Machine → Type 0) → Type 0
 Keeps w P = (log : List Event) (m : Machine) (g : Step) → Reaches w log m → CanHappen w m g → P log m → P (log ++ g.event ∷ []) (after w m g)
 
-steps_keep : (w : Config) (P : List Event → Machine → Type 0) → Keeps w P → (log : List Event) (m : Machine) (gs : List Step) → Reaches w log m → AreSteps w m gs → IsRising (log ++ map event_of gs) → P log m → P (log ++ map event_of gs) (state_after w m gs)
+pub steps_keep : (w : Config) (P : List Event → Machine → Type 0) → Keeps w P → (log : List Event) (m : Machine) (gs : List Step) → Reaches w log m → AreSteps w m gs → IsRising (log ++ map event_of gs) → P log m → P (log ++ map event_of gs) (state_after w m gs)
 steps_keep w P keeps log m [] r s rising k = subst (λ es. P es m) (sym (append-nil log)) k
 steps_keep w P keeps log m (g ∷ gs) r s rising k =
     let e = append_assoc log (g.event ∷ []) (map event_of gs) in

@@ -47,6 +47,7 @@ pub mod Prefix
 pub mod Numbered
 pub mod Tests
 pub mod InRuns
+pub mod Happened
 pub mod Nowhere
 pub mod Each
 pub mod LockViews
@@ -62,6 +63,8 @@ pub mod Retired
 pub mod Asking
 pub mod Serving
 pub mod LockCounts
+pub mod Turns
+pub mod LockInstructions
 pub mod Targets
 pub mod TableCode
 pub mod TableCells

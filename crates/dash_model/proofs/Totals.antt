@@ -115,3 +115,13 @@ fewer_wait w queues locks k low harts few none =
     let swapped = total_swap (λ i h. weigh (is_waiter h) (queues i)) locks (all_harts w) in
     let less = total_less (λ h. total (λ i. weigh (is_waiter h) (queues i)) locks) k (all_harts w) low few none in
     omega arith
+
+-- where a total is 0 each term is
+pub no_term : (f : ℕ → ℕ) (i n : ℕ) → i < n → total f n ≡ 0 → f i ≡ 0
+unfolding total
+no_term f i zero l e = absurd (omega arith)
+no_term f i (suc n) l e =
+    elim (last_or_below i n l) [
+      | inl s ↦ (let a : f i ≡ f n = ap f s in omega arith)
+      | inr b ↦ no_term f i n b (omega arith)
+    ]
