@@ -24,7 +24,7 @@ use Rattle.dash_model.specs.Cases.{TakesWell}
 use Rattle.dash_model.specs.Guard.{Guard}
 use Rattle.dash_model.specs.HartGuards.{LockSends}
 use Rattle.dash_model.specs.Row.{row}
-use Rattle.dash_model.proofs.Totals.{no_term}
+use Rattle.dash_model.proofs.Totals.{term_le}
 use Rattle.dash_model.proofs.Each.{Each, EachSent, each_member, less_each, send_each}
 use Rattle.dash_model.proofs.HartSteps.{Answered, HartStep, Rests, Sends as Posts, Works, hart_step}
 use Rattle.dash_model.proofs.Tests.{both_left, both_right, is_same, not_same, one_same, same}
@@ -169,7 +169,7 @@ module _ (w : Config) (h : ℕ) (s : HartState) where
   none_wait i (x ∷ xs) e = ((λ same. (let some : is_waiter h x ≡ 1 = ap (λ y. one x.hart y) (sym same) ∙ one_same x.hart in absurd (omega arith))), none_wait i xs (omega arith))
 
   no_asks : (m : Machine) → weigh (of_hart h) m.net ≡ 0 → places_of w m h ≡ 0 → Asks w h s m
-  no_asks m none places = record { net = none_each m.net none; queues = λ i low. none_wait i (queue_of w m i) (no_term (λ i. weigh (is_waiter h) (queue_of w m i)) i w.top.locks low places) }
+  no_asks m none places = record { net = none_each m.net none; queues = λ i low. none_wait i (queue_of w m i) ((let le = term_le (λ i. weigh (is_waiter h) (queue_of w m i)) i w.top.locks low in omega arith)) }
 
 module _ (w : Config) (h : ℕ) (s t : HartState) (need : Need) (x : ℕ) (does : Does w.image w.top s need x t) (other : IsLock need → ⊥) where
   -- a hart that does another instruction asked for none

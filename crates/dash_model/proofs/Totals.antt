@@ -116,12 +116,12 @@ fewer_wait w queues locks k low harts few none =
     let less = total_less (λ h. total (λ i. weigh (is_waiter h) (queues i)) locks) k (all_harts w) low few none in
     omega arith
 
--- where a total is 0 each term is
-pub no_term : (f : ℕ → ℕ) (i n : ℕ) → i < n → total f n ≡ 0 → f i ≡ 0
+-- each term is at most the total
+pub term_le : (f : ℕ → ℕ) (i n : ℕ) → i < n → f i ≤ total f n
 unfolding total
-no_term f i zero l e = absurd (omega arith)
-no_term f i (suc n) l e =
+term_le f i zero l = absurd (omega arith)
+term_le f i (suc n) l =
     elim (last_or_below i n l) [
       | inl s ↦ (let a : f i ≡ f n = ap f s in omega arith)
-      | inr b ↦ no_term f i n b (omega arith)
+      | inr b ↦ (let rest = term_le f i n b in omega arith)
     ]
