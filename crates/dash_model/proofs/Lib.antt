@@ -66,6 +66,7 @@ pub mod LockCounts
 pub mod Turns
 pub mod LockInstructions
 pub mod ReplaySteps
+pub mod ReplayedHarts
 pub mod Targets
 pub mod TableCode
 pub mod TableCells

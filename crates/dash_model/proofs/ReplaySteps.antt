@@ -86,7 +86,7 @@ module _ (w : Config) (h : ℕ) (s old : HartState) where
   none_sent (x ∷ xs) e = (none_answers x.msg (omega arith), none_sent xs (omega arith))
 
   -- where no answer is on its way
-  stands_here : (net : List Packet) → weigh (answers h) net ≡ 0 → old ≡ s → Stands w h s old net
+  pub stands_here : (net : List Packet) → weigh (answers h) net ≡ 0 → old ≡ s → Stands w h s old net
   stands_here net none is = record { same = λ e. is; ahead = none_each net none }
 
 -- a step along the answers to a hart
