@@ -67,6 +67,7 @@ pub mod Turns
 pub mod LockInstructions
 pub mod ReplaySteps
 pub mod ReplayedHarts
+pub mod SentUnlocks
 pub mod Targets
 pub mod TableCode
 pub mod TableCells

@@ -173,7 +173,7 @@ module _ (w : Config) (h : ℕ) (s : HartState) where
 
 module _ (w : Config) (h : ℕ) (s t : HartState) (need : Need) (x : ℕ) (does : Does w.image w.top s need x t) (other : IsLock need → ⊥) where
   -- a hart that does another instruction asked for none
-  not_next : (n : ℕ) (lock : Need) → IsLock lock → IsNextOf w s n lock → ⊥
+  pub not_next : (n : ℕ) (lock : Need) → IsLock lock → IsNextOf w s n lock → ⊥
   not_next n lock is next = other (subst IsLock (one_need w.image w.top s lock need next.needs (needs_of w.image w.top s t need x does)) is)
 
   moved_ask : (m : Msg) → AskOf w h s m → AskOf w h t m

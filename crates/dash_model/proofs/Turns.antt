@@ -10,7 +10,7 @@ use Rattle.dash_event.specs.declared.access.Access.{Access}
 use Rattle.write_buffer.specs.declared.entry.Entry.{Entry as Stored}
 use Rattle.dash_base.specs.declared.need.HintKind.TheVariants.{Exclusive, Fetch, Shared}
 use Rattle.dash_event.specs.declared.event.Kind.{Kind}
-use Rattle.dash_event.specs.Records.{unseen}
+use Rattle.dash_event.specs.Records.{records_in, unseen}
 use Rattle.write_buffer.specs.Look.{look_by, newest_of}
 use Rattle.dash_event.specs.Offered.{load_op, offered}
 use Rattle.hart_core.specs.Meaning.{Does}
@@ -22,7 +22,9 @@ use Rattle.dash_base.specs.declared.id.ClusterId.{ClusterId}
 use Rattle.dash_base.specs.declared.id.WordAddr.{WordAddr}
 use Rattle.dash_msg.specs.declared.msg.Msg.{Msg}
 use Rattle.dash_base.specs.declared.instr.Labels.{Labels}
-use Rattle.dash_event.specs.Effects.{reply}
+use Rattle.dash_event.specs.Effects.{hart_of, reply}
+use Rattle.dash_event.specs.declared.step_record.StepRecord.{StepRecord}
+use Rattle.dash_event.specs.declared.step_record.StepRecord.TheVariants as step
 use Rattle.dash_base.specs.declared.need.Need.{Need}
 use Rattle.dash_model.specs.LineRows.{take_row}
 use Rattle.dash_model.specs.Part.{Part, Processor, Waiter}
@@ -39,8 +41,6 @@ use Rattle.dash_model.specs.LockFacts.{IsLock}
 use Rattle.dash_model.specs.Words.{content, held_by, word_in, written_in}
 use Rattle.dash_model.specs.LockRows.{answered, grant_row}
 use Rattle.dash_model.specs.Row.{line_msg_row, msg_row, msg_row_if, row}
-use Rattle.dash_model.proofs.Facts.{other}
-use Rattle.dash_model.proofs.LineFacts.{answer}
 use Rattle.dash_model.proofs.LineSteps.{IsLineMsg}
 use Rattle.dash_model.proofs.Tests.{both, both_left, is_below, is_same, same}
 use Rattle.dash_model.proofs.HartSteps.{answers_now}
@@ -63,12 +63,14 @@ pub record DoesOne (w : Config) (c : ℕ) (d : HartEffect) (p q : Part) (e : Kin
   pub other : IsLock d.need → ⊥
   pub apart : (k : ℕ) → Apart e k
   pub cores : (k : ℕ) → (q.harts k).core ≡ cond (k == hart.0) d.next (p.harts k).core
+  pub recorded : (r : StepRecord) → records_in e ≡ r ∷ [] → hart_of r ≡ hart
   pub replays : (old new : Harts) → old hart.0 ≡ (p.harts hart.0).core → Moves w.image w.top old new hart d.need answer → Replays w.image w.top old e new
 
 -- no hart moved
 pub record DoesNone (w : Config) (p q : Part) (e : Kind) : Type 0 where
   pub apart : (k : ℕ) → Apart e k
   pub cores : (k : ℕ) → (q.harts k).core ≡ (p.harts k).core
+  pub unrecorded : records_in e ≡ []
   pub replays : (old new : Harts) → ((g : ℕ) → new g ≡ old g) → Replays w.image w.top old e new
 
 -- a message answers a hart so
@@ -148,11 +150,15 @@ module _ (w : Config) where
   answered_core g k true d p e = changed_core g k (record (p.harts g) { core = d.next; asked = false }) p d.next refl
   answered_core g k false d p e = absurd (cc)
 
+-- the one record of an event
+pub only_record : (e : Kind) (a : StepRecord) (h : HartId) → records_in e ≡ a ∷ [] → hart_of a ≡ h → (r : StepRecord) → records_in e ≡ r ∷ [] → hart_of r ≡ h
+only_record e a h is mine r there = let x : r ≡ a = cc in ap hart_of x ∙ mine
+
 module _ (w : Config) (c : ℕ) (d : HartEffect) (p : Part) (low : c < w.top.clusters) where
   -- an instruction that accesses no word
-  works_at : (e : Kind) (q : Part) (h : HartId) (pc : ℕ) (need : Need) → RetiresAt w c h.0 pc need d p → (IsLock need → ⊥) → ((k : ℕ) → Apart e k) → ((k : ℕ) → (q.harts k).core ≡ cond (k == h.0) d.next (p.harts k).core)
+  works_at : (e : Kind) (q : Part) (h : HartId) (pc : ℕ) (need : Need) (a : StepRecord) → records_in e ≡ a ∷ [] → hart_of a ≡ h → RetiresAt w c h.0 pc need d p → (IsLock need → ⊥) → ((k : ℕ) → Apart e k) → ((k : ℕ) → (q.harts k).core ≡ cond (k == h.0) d.next (p.harts k).core)
       → ((old new : Harts) → MovesAt w.image w.top old new h pc need → Replays w.image w.top old e new) → Turn w c d p q e
-  works_at e q h pc need can other apart cores replays = Works e (record {
+  works_at e q h pc need a is mine can other apart cores replays = Works e (record {
     hart = h;
     answer = 0;
     mine = can.retires.mine;
@@ -160,13 +166,14 @@ module _ (w : Config) (c : ℕ) (d : HartEffect) (p : Part) (low : c < w.top.clu
     other = λ y. other (subst IsLock can.retires.need_is y);
     apart = apart;
     cores = cores;
+    recorded = only_record e a h is mine;
     replays = λ old new same moves. replays old new (record { moves = subst (λ n. Moves w.image w.top old new h n 0) can.retires.need_is moves; pc_is = can.pc_is ∙ ap (λ (s : HartState). s.pc) (sym same) });
   })
 
   -- an instruction that accesses one
-  works_on : (e : Kind) (q : Part) (a : Access) (need : Need) (content : ℕ) (succeeds : Bool) (shown : Seen) → Retires w c a.hart.0 need (reply a.read a.written) d p → (IsLock need → ⊥) → IsAccess a.hart.0 (number_of a.hart.0 p) d.need content succeeds shown a → ((k : ℕ) → Apart e k) → ((k : ℕ) → (q.harts k).core ≡ cond (k == a.hart.0) d.next (p.harts k).core)
+  works_on : (e : Kind) (q : Part) (a : Access) (need : Need) (content : ℕ) (succeeds : Bool) (shown : Seen) → records_in e ≡ step.Access (unseen a) ∷ [] → Retires w c a.hart.0 need (reply a.read a.written) d p → (IsLock need → ⊥) → IsAccess a.hart.0 (number_of a.hart.0 p) d.need content succeeds shown a → ((k : ℕ) → Apart e k) → ((k : ℕ) → (q.harts k).core ≡ cond (k == a.hart.0) d.next (p.harts k).core)
       → ((old new : Harts) → Accesses w.image w.top old new a → Replays w.image w.top old e new) → Turn w c d p q e
-  works_on e q a need content succeeds shown can other access apart cores replays = Works e (record {
+  works_on e q a need content succeeds shown is can other access apart cores replays = Works e (record {
     hart = a.hart;
     answer = reply a.read a.written;
     mine = can.mine;
@@ -174,6 +181,7 @@ module _ (w : Config) (c : ℕ) (d : HartEffect) (p : Part) (low : c < w.top.clu
     other = λ y. other (subst IsLock can.need_is y);
     apart = apart;
     cores = cores;
+    recorded = only_record e (step.Access (unseen a)) a.hart is refl;
     replays = λ old new same moves. replays old new (record {
       need = d.need;
       moves = moves;
@@ -183,9 +191,9 @@ module _ (w : Config) (c : ℕ) (d : HartEffect) (p : Part) (low : c < w.top.clu
     });
   })
 
-  names : (h : HartId) (e : Kind) (q : Part) → cluster_of w h.0 ≡ c → ((k : ℕ) → Apart e k) → ((k : ℕ) → (q.harts k).core ≡ (p.harts k).core)
+  names : (h : HartId) (e : Kind) (q : Part) → records_in e ≡ [] → cluster_of w h.0 ≡ c → ((k : ℕ) → Apart e k) → ((k : ℕ) → (q.harts k).core ≡ (p.harts k).core)
       → ((old new : Harts) → Names w.top old new h → Replays w.image w.top old e new) → Turn w c d p q e
-  names h e q mine apart cores replays = Rests e (record { apart = apart; cores = cores; replays = λ old new stays. replays old new (record { in_range = hart_below w h.0 c mine low; stays = stays }) })
+  names h e q none mine apart cores replays = Rests e (record { apart = apart; cores = cores; unrecorded = none; replays = λ old new stays. replays old new (record { in_range = hart_below w h.0 c mine low; stays = stays }) })
 
   line_names : (m : Msg) → IsLineMsg m → NamesHarts w.top m
   line_names (LockAsk t n word v) i = absurd i
@@ -205,6 +213,7 @@ module _ (w : Config) (c : ℕ) (d : HartEffect) (p : Part) (low : c < w.top.clu
   taken_line f l m i = Rests (kind.Take f m) (record {
     apart = line_apart f m i;
     cores = λ k. cleared_core w l.0 (held_by k (p.cells l.0).copy && not (held_by k (take_row (first_prefetch w) (home_of w l.0) c f.0 m (p.cells l.0) (p.homes l.0)).cell.copy)) (p.harts k);
+    unrecorded = refl;
     replays = λ old new stays. record { in_range = line_names m i; stays = stays };
   })
 
@@ -231,6 +240,7 @@ module _ (w : Config) (c : ℕ) (d : HartEffect) (p : Part) (low : c < w.top.clu
   taken f (LockAsk t n word v) well can = Rests (kind.Take f (LockAsk t n word v)) (record {
     apart = λ k. (refl, refl);
     cores = λ k. refl;
+    unrecorded = refl;
     replays = λ old new stays. record { in_range = is_below t.0 (all_harts w) (both_left (has_hart w t) (own_lock w c word) well.range); stays = stays };
   })
   taken f (Unlock t n word) well can = (let no = well.case in absurd (cc))
@@ -299,42 +309,42 @@ module _ (w : Config) (c : ℕ) (d : HartEffect) (p : Part) (low : c < w.top.clu
 -- each event
 pub turn : (w : Config) (c : ℕ) (e : Kind) (d : HartEffect) (p : Part) → c < w.top.clusters → Guard w c e d p → TakesWell w c e p → Turn w c d p (row w c e d p).part e
 unfolding row Guard
-turn w c (kind.Alu h pc) d p low can well = works_at w c d p low (kind.Alu h pc) (retire h.0 d p) h pc needed.Alu can (λ y. y) (λ k. (refl, refl)) (λ k. changed_core w h.0 k (record (p.harts h.0) { core = d.next }) p d.next refl) (λ old new x. x)
-turn w c (kind.Fence h pc) d p low can well = works_at w c d p low (kind.Fence h pc) (retire h.0 d p) h pc (needed.Fence can.waits) can.next (λ y. y) (λ k. (refl, refl)) (λ k. changed_core w h.0 k (record (p.harts h.0) { core = d.next }) p d.next refl) (λ old new x. record { waits = can.waits; next = x })
-turn w c (kind.Hint h pc slot) d p low can well = works_at w c d p low (kind.Hint h pc slot) (hint_row w h.0 slot d.need (retire h.0 d p)).part h pc (needed.Hint can.kinds can.address) can.next (λ y. y) (λ k. (refl, refl)) (λ k. hinted_core w h.0 k slot d.need (retire h.0 d p) ∙ changed_core w h.0 k (record (p.harts h.0) { core = d.next }) p d.next refl) (λ old new x. record { hint = can.kinds; address = can.address; next = x })
-turn w c (kind.Put h pc byte) d p low can well = works_at w c d p low (kind.Put h pc byte) (retire h.0 d p) h pc (needed.Put byte) can (λ y. y) (λ k. (refl, refl)) (λ k. changed_core w h.0 k (record (p.harts h.0) { core = d.next }) p d.next refl) (λ old new x. x)
-turn w c (kind.Stop h pc end) d p low can well = works_at w c d p low (kind.Stop h pc end) (retire h.0 d p) h pc (needed.Stop end) can (λ y. y) (λ k. (refl, refl)) (λ k. changed_core w h.0 k (record (p.harts h.0) { core = d.next }) p d.next refl) (λ old new x. x)
+turn w c (kind.Alu h pc) d p low can well = works_at w c d p low (kind.Alu h pc) (retire h.0 d p) h pc needed.Alu (step.Plain h) refl refl can (λ y. y) (λ k. (refl, refl)) (λ k. changed_core w h.0 k (record (p.harts h.0) { core = d.next }) p d.next refl) (λ old new x. x)
+turn w c (kind.Fence h pc) d p low can well = works_at w c d p low (kind.Fence h pc) (retire h.0 d p) h pc (needed.Fence can.waits) (step.Plain h) refl refl can.next (λ y. y) (λ k. (refl, refl)) (λ k. changed_core w h.0 k (record (p.harts h.0) { core = d.next }) p d.next refl) (λ old new x. record { waits = can.waits; next = x })
+turn w c (kind.Hint h pc slot) d p low can well = works_at w c d p low (kind.Hint h pc slot) (hint_row w h.0 slot d.need (retire h.0 d p)).part h pc (needed.Hint can.kinds can.address) (step.Plain h) refl refl can.next (λ y. y) (λ k. (refl, refl)) (λ k. hinted_core w h.0 k slot d.need (retire h.0 d p) ∙ changed_core w h.0 k (record (p.harts h.0) { core = d.next }) p d.next refl) (λ old new x. record { hint = can.kinds; address = can.address; next = x })
+turn w c (kind.Put h pc byte) d p low can well = works_at w c d p low (kind.Put h pc byte) (retire h.0 d p) h pc (needed.Put byte) (step.Byte h byte) refl refl can (λ y. y) (λ k. (refl, refl)) (λ k. changed_core w h.0 k (record (p.harts h.0) { core = d.next }) p d.next refl) (λ old new x. x)
+turn w c (kind.Stop h pc end) d p low can well = works_at w c d p low (kind.Stop h pc end) (retire h.0 d p) h pc (needed.Stop end) (step.Stopped h end) refl refl can (λ y. y) (λ k. (refl, refl)) (λ k. changed_core w h.0 k (record (p.harts h.0) { core = d.next }) p d.next refl) (λ old new x. x)
 turn w c (kind.Load a level) d p low can well =
     let look = look_by (newest_of a.word.0 (p.harts a.hart.0).buffer) a.mask in
     let next = record (p.harts a.hart.0) { core = d.next } in
     let l = line_at w a.word.0 in
     let is = load_is w c d p low a level can.labels can.reserve look can.next.need_is can.from in
-    works_on w c d p low (kind.Load a level) (load_row w a d p).part a (needed.Load a.word a.mask can.labels can.reserve) is.content false is.shown can.next (λ y. y) is.access (λ k. (refl, refl)) (λ k. changed_core w a.hart.0 k (loaded_from w a l look next) p d.next (loaded_core w a l look next)) (λ old new x. (x, is.load))
+    works_on w c d p low (kind.Load a level) (load_row w a d p).part a (needed.Load a.word a.mask can.labels can.reserve) is.content false is.shown refl can.next (λ y. y) is.access (λ k. (refl, refl)) (λ k. changed_core w a.hart.0 k (loaded_from w a l look next) p d.next (loaded_core w a l look next)) (λ old new x. (x, is.load))
 turn w c (kind.Store a) d p low can well =
     let made = made_by w c d p low a (needed.Store a.word a.mask can.value) 0 false seen.Nothing can.next.need_is can.access in
-    works_on w c d p low (kind.Store a) (store_row a d p).part a (needed.Store a.word a.mask can.value) 0 false seen.Nothing can.next (λ y. y) can.access (λ k. (refl, refl)) (λ k. changed_core w a.hart.0 k (record (p.harts a.hart.0) { core = d.next; buffer = (p.harts a.hart.0).buffer ++ entry_of a ∷ [] }) p d.next refl) (λ old new x. (x, ap (λ (y : Access). y.op) (ap (λ o. unwrap_or o (unseen a)) made), can.access.seen_is))
-turn w c (kind.Commit h n l v) d p low can well = names w c d p low h (kind.Commit h n l v) (commit_row w h.0 l.0 (p.harts h.0).buffer p).part can.mine (λ k. (refl, refl)) (λ k. drained_core w h.0 l.0 k (p.harts h.0).buffer p) (λ old new x. x)
+    works_on w c d p low (kind.Store a) (store_row a d p).part a (needed.Store a.word a.mask can.value) 0 false seen.Nothing refl can.next (λ y. y) can.access (λ k. (refl, refl)) (λ k. changed_core w a.hart.0 k (record (p.harts a.hart.0) { core = d.next; buffer = (p.harts a.hart.0).buffer ++ entry_of a ∷ [] }) p d.next refl) (λ old new x. (x, ap (λ (y : Access). y.op) (ap (λ o. unwrap_or o (unseen a)) made), can.access.seen_is))
+turn w c (kind.Commit h n l v) d p low can well = names w c d p low h (kind.Commit h n l v) (commit_row w h.0 l.0 (p.harts h.0).buffer p).part refl can.mine (λ k. (refl, refl)) (λ k. drained_core w h.0 l.0 k (p.harts h.0).buffer p) (λ old new x. x)
 turn w c (kind.Rmw a l v) d p low can well =
     let next = record (p.harts a.hart.0) { core = d.next; reserved = rmw_reserved a.op (p.harts a.hart.0).reserved } in
     let need = needed.Rmw a.word can.op can.operand can.labels in
     let old = word_in w a.word.0 (content (p.cells l.0).copy) in
     let shown = seen.Line (content (p.cells l.0).copy).version in
     let made = made_by w c d p low a need old true shown can.next.need_is can.access in
-    works_on w c d p low (kind.Rmw a l v) (rmw_row w a l.0 d p).part a need old true shown can.next (λ y. y) can.access (λ k. (refl, refl))
+    works_on w c d p low (kind.Rmw a l v) (rmw_row w a l.0 d p).part a need old true shown refl can.next (λ y. y) can.access (λ k. (refl, refl))
     (λ k. acted_core w l.0 k (Commit a.hart.0 (written_in w a.word.0 a.mask (unwrap_or a.written 0) (content (p.cells l.0).copy))) (change a.hart.0 next p) ∙ changed_core w a.hart.0 k next p d.next refl) (λ old new x. (x, rmw_is w c d p low a.hart.0 (number_of a.hart.0 p) (word_in w a.word.0 (content (p.cells l.0).copy)) a.word can.op can.operand can.labels a made))
 turn w c (kind.ScFail a) d p low can well =
     let need = needed.Rmw a.word Sc can.operand can.labels in
     let is = ap (λ o. unwrap_or o (unseen a)) (made_by w c d p low a need 0 false seen.Nothing can.next.need_is can.access) in
-    works_on w c d p low (kind.ScFail a) (sc_fail_row a d p).part a need 0 false seen.Nothing can.next (λ y. y) can.access (λ k. (refl, refl)) (λ k. changed_core w a.hart.0 k (record (p.harts a.hart.0) { core = d.next; reserved = None }) p d.next refl) (λ old new x. (x, ap (λ (y : Access). y.op) is, ap (λ (y : Access). y.written) is, can.access.seen_is))
+    works_on w c d p low (kind.ScFail a) (sc_fail_row a d p).part a need 0 false seen.Nothing refl can.next (λ y. y) can.access (λ k. (refl, refl)) (λ k. changed_core w a.hart.0 k (record (p.harts a.hart.0) { core = d.next; reserved = None }) p d.next refl) (λ old new x. (x, ap (λ (y : Access). y.op) is, ap (λ (y : Access). y.written) is, can.access.seen_is))
 turn w c (kind.LockSend h m) d p low can well = Sends h m can (λ k. still_core w h.0 k (record (p.harts h.0) { asked = true }) p refl)
-turn w c (kind.BusRead h l) d p low can well = names w c d p low h (kind.BusRead h l) (acts w l.0 (BusRead h.0) p).part can.mine (λ k. (refl, refl)) (λ k. acted_core w l.0 k (BusRead h.0) p) (λ old new x. x)
-turn w c (kind.BusOwn h l) d p low can well = names w c d p low h (kind.BusOwn h l) (acts w l.0 (BusOwn h.0) p).part can.mine (λ k. (refl, refl)) (λ k. acted_core w l.0 k (BusOwn h.0) p) (λ old new x. x)
-turn w c (kind.Evict h l) d p low can well = names w c d p low h (kind.Evict h l) (acts w l.0 (evict_act h.0 (p.cells l.0).copy) p).part can.mine (λ k. (refl, refl)) (λ k. acted_core w l.0 k (evict_act h.0 (p.cells l.0).copy) p) (λ old new x. x)
-turn w c (kind.Ask slot h l own) d p low can well = names w c d p low h (kind.Ask slot h l own) (acts w l.0 (ask_act own slot h.0) p).part can.mine (λ k. (refl, refl)) (λ k. acted_core w l.0 k (ask_act own slot h.0) p) (λ old new x. x)
-turn w c (kind.Again slot l) d p low can well = Rests (kind.Again slot l) (record { apart = λ k. (refl, refl); cores = λ k. acted_core w l.0 k Again p; replays = λ old new stays. record { stays = stays } })
+turn w c (kind.BusRead h l) d p low can well = names w c d p low h (kind.BusRead h l) (acts w l.0 (BusRead h.0) p).part refl can.mine (λ k. (refl, refl)) (λ k. acted_core w l.0 k (BusRead h.0) p) (λ old new x. x)
+turn w c (kind.BusOwn h l) d p low can well = names w c d p low h (kind.BusOwn h l) (acts w l.0 (BusOwn h.0) p).part refl can.mine (λ k. (refl, refl)) (λ k. acted_core w l.0 k (BusOwn h.0) p) (λ old new x. x)
+turn w c (kind.Evict h l) d p low can well = names w c d p low h (kind.Evict h l) (acts w l.0 (evict_act h.0 (p.cells l.0).copy) p).part refl can.mine (λ k. (refl, refl)) (λ k. acted_core w l.0 k (evict_act h.0 (p.cells l.0).copy) p) (λ old new x. x)
+turn w c (kind.Ask slot h l own) d p low can well = names w c d p low h (kind.Ask slot h l own) (acts w l.0 (ask_act own slot h.0) p).part refl can.mine (λ k. (refl, refl)) (λ k. acted_core w l.0 k (ask_act own slot h.0) p) (λ old new x. x)
+turn w c (kind.Again slot l) d p low can well = Rests (kind.Again slot l) (record { apart = λ k. (refl, refl); cores = λ k. acted_core w l.0 k Again p; unrecorded = refl; replays = λ old new stays. record { stays = stays } })
 turn w c (kind.Install slot h l) d p low can well =
     let next = kept w l.0 (p.cells l.0).slot (held_by h.0 (p.cells l.0).copy) (p.harts h.0) in
-    names w c d p low h (kind.Install slot h l) (install w h.0 l.0 p).part can.mine (λ k. (refl, refl)) (λ k. acted_core w l.0 k Install (change h.0 next p) ∙ still_core w h.0 k next p (kept_core w l.0 (p.cells l.0).slot (held_by h.0 (p.cells l.0).copy) (p.harts h.0))) (λ old new x. x)
+    names w c d p low h (kind.Install slot h l) (install w h.0 l.0 p).part refl can.mine (λ k. (refl, refl)) (λ k. acted_core w l.0 k Install (change h.0 next p) ∙ still_core w h.0 k next p (kept_core w l.0 (p.cells l.0).slot (held_by h.0 (p.cells l.0).copy) (p.harts h.0))) (λ old new x. x)
 turn w c (kind.Grant a) d p low can well = Grants a can (λ k. granted_core w (lock_at w a.word.0) k (p.locks (lock_at w a.word.0)).queue p)
 turn w c (kind.Free f a) d p low can well = Frees f a can (λ k. refl)
 turn w c (kind.Take f m) d p low can well = taken_if w c d p low f m (applies w c m p) (both (in_range w c m) (has_space w c m p) well.range well.room) well can
