@@ -50,7 +50,7 @@ pub mod InRuns
 pub mod Happened
 pub mod Earlier
 pub mod Entries
-pub mod Turns
+pub mod StoreTurns
 pub mod StoreOrder
 pub mod VersionsCount
 pub mod CommitsFollow
@@ -74,6 +74,11 @@ pub mod Asking
 pub mod Serving
 pub mod LockCounts
 pub mod LockChain
+pub mod HartTurns
+pub mod LockInstructions
+pub mod ReplaySteps
+pub mod ReplayedHarts
+pub mod SentUnlocks
 pub mod Targets
 pub mod TableCode
 pub mod TableCells
