@@ -48,6 +48,8 @@ pub mod Numbered
 pub mod Tests
 pub mod InRuns
 pub mod Happened
+pub mod VersionedContents
+pub mod ShownVersions
 pub mod Nowhere
 pub mod Each
 pub mod LockViews

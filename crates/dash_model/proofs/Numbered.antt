@@ -47,7 +47,7 @@ unfolding Guard
 rmw_fits w c y d p a k v e g = subst (λ z. Guard w c z d p) e g
 
 -- where a commit's word is, is a line of memory
-line_below : (w : Config) (address l : ℕ) → IsInMemory w.top address 4 → line_at w address ≡ l → l < lines w
+pub line_below : (w : Config) (address l : ℕ) → IsInMemory w.top address 4 → line_at w address ≡ l → l < lines w
 line_below w address l i e =
     let pages = w.top.memory_in_pages in
     let above = i.above in
