@@ -50,6 +50,8 @@ pub mod InRuns
 pub mod Happened
 pub mod VersionedContents
 pub mod ShownVersions
+pub mod Floors
+pub mod OwnCommits
 pub mod Nowhere
 pub mod Each
 pub mod LockViews

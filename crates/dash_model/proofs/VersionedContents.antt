@@ -53,7 +53,7 @@ made_current w s i c t d v next inv =
 -- a step keeps what every content has, where what it makes has it
 pub step_keeps : (P : Line → Type 0) (w : Config) (l : ℕ) (v : Line) (m : Machine) (g : Step) → LineStep w l m g → Invariant (home_of w l) v (along w l (after w m g)) → P v → Everywhere P (along w l m) → Everywhere P (along w l (after w m g))
 step_keeps P w l v m g (Rests e) inv now old = subst (Everywhere P) (sym e) old
-step_keeps P w l v m g (Takes_one f x first e) inv now old = subst (Everywhere P) (sym e) (take_keeps P (at w l) (along w l m) g.event.stamp g.event.cluster.0 f.0 g.stamp x first old)
+step_keeps P w l v m g (Takes_one f x of first e) inv now old = subst (Everywhere P) (sym e) (take_keeps P (at w l) (along w l m) g.event.stamp g.event.cluster.0 f.0 g.stamp x first old)
 step_keeps P w l v m g (Does_act a may e) inv now old =
     subst (Everywhere P) (sym e) (act_keeps P (at w l) (along w l m) g.event.stamp g.event.cluster.0 a (λ t d is. subst P (sym (made_current (at w l) (along w l m) g.event.stamp g.event.cluster.0 t d v (subst (λ y. MayAct y (cell_at l m g.event.cluster.0)) is may) (subst (Invariant (home_of w l) v) (e ∙ ap (λ y. line.after (at w l) (along w l m) (Acts g.event.stamp g.event.cluster.0 y)) is) inv))) now) old)
 
