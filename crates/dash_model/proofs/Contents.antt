@@ -15,7 +15,7 @@ use Rattle.dash_model.specs.Acts.{owe, commit_copy}
 use Rattle.dash_model.proofs.LineState.{IsNext}
 use Rattle.dash_model.proofs.SameLine.{same_line, same-self, same-is}
 use Rattle.dash_model.proofs.Weigh.{send-none}
-use Rattle.dash_model.proofs.Facts.{Place, AtHome, At, Back, Moving, Facts, Cover, Contents, other, at_home, returns, is_back, held, is_reading, came_read, asked, owner_off, came_off, shared_off, read_off, marked, back_any, back_any_msg, holds, old_datas_msg, old_brings_msg, old_backs_msg, old_datas, old_brings, old_backs}
+use Rattle.dash_model.proofs.Facts.{Place, AtHome, At, Back, Moving, Facts, Cover, Contents, other, at_home, returns, is_back, held, is_reading, came_read, asked, owner_off, came_off, shared_off, read_off, marked, back_any, back_any_msg, holds, datas_weight_msg, datas_weight, old_datas_msg, old_brings_msg, old_backs_msg, old_datas, old_brings, old_backs}
 
 old_datas_msg_only : (v : Line) (x a b : ℕ) (m : Msg) → datas_msg x a b m ≡ 0 → old_datas_msg v x a b m ≡ 0
 old_datas_msg_only v x a b (Data l d) e = grind (arith, nat_tests)
@@ -38,6 +38,13 @@ old_backs_only v x p e = old_backs_msg_only v x p.src p.dst p.msg e
 
 pub old_datas_only : (v : Line) (x : ℕ) (p : Packet) → datas x p ≡ 0 → old_datas v x p ≡ 0
 old_datas_only v x p e = old_datas_msg_only v x p.src p.dst p.msg e
+
+datas_weight_msg_only : (b : Line → ℕ) (x a c : ℕ) (m : Msg) → datas_msg x a c m ≡ 0 → datas_weight_msg b x a c m ≡ 0
+datas_weight_msg_only b x a c (Data l d) e = grind (arith, nat_tests)
+datas_weight_msg_only b x a c _ e = refl
+
+pub datas_weight_only : (b : Line → ℕ) (x : ℕ) (p : Packet) → datas x p ≡ 0 → datas_weight b x p ≡ 0
+datas_weight_only b x p e = datas_weight_msg_only b x p.src p.dst p.msg e
 
 -- the token is at a cluster, so it is nowhere else, nor at home or on its way there
 pub record OnlyAt (p : Place) (c x : ℕ) : Type 0 where
@@ -63,6 +70,11 @@ off_by v d false e f = absurd (omega arith)
 
 pub off_not : (v d : Line) → other v d ≡ 0 → d ≡ v
 off_not v d e = off_by v d (same_line v d) refl e
+
+-- what the home has while it has the token weighs as little as the current content
+pub home_weighs : (b : Line → ℕ) (v d : Line) (p : Place) → b v ≡ 0 → at_home p ≡ 1 → (at_home p ≡ 0) ⊎ (other v d ≡ 0) → b d ≡ 0
+home_weighs b v d p z one (inl e) = absurd (omega arith)
+home_weighs b v d p z one (inr e) = ap b (off_not v d e) ∙ z
 
 pub owner_current : (hs : List ℕ) (o : ℕ) (e : Line) (k : Copy) (m : Line) (r : ℕ) → k ≡ Held hs (Some o) e → owner_off k m + r ≡ 0 → e ≡ m
 owner_current hs o e k m r f g = let q : owner_off (Held hs (Some o) e) m + r ≡ 0 = subst (λ k. owner_off k m + r ≡ 0) f g in off_not m e (omega arith)

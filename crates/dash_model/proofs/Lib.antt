@@ -56,6 +56,10 @@ pub mod VersionsCount
 pub mod CommitsFollow
 pub mod OwnStores
 pub mod DrainedHarts
+pub mod VersionedContents
+pub mod ShownVersions
+pub mod Floors
+pub mod OwnCommits
 pub mod Nowhere
 pub mod Each
 pub mod LockViews
