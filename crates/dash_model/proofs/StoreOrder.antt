@@ -23,7 +23,7 @@ use Rattle.dash_model.proofs.Tests.{same}
 use Rattle.dash_model.proofs.Happened.{Happened}
 use Rattle.dash_model.proofs.Earlier.{Earlier, Latest, stands, event_kept, event_last}
 use Rattle.dash_model.proofs.Entries.{IsIn, in_first, in_last, in_more, NumbersRise, rise_more}
-use Rattle.dash_model.proofs.Turns.{Turn, Idles, Leaves, Joins, turn}
+use Rattle.dash_model.proofs.StoreTurns.{Turn, Idles, Leaves, Joins, turn}
 
 -- a store's commit is in the log
 pub record IsCommitted (log : List Event) (b : Access) : Type 0 where
