@@ -44,6 +44,7 @@ pub mod CommitsFollow
 pub mod OwnStores
 pub mod DrainedHarts
 pub mod LockChain
+pub mod RunsCoherent
 pub mod Lanes
 pub mod Effects
 pub mod Changes

@@ -48,3 +48,4 @@ pub mod TableLines
 pub mod TableHome
 pub mod TableMessages
 pub mod TableLocks
+pub mod RunLaws

@@ -8,6 +8,7 @@ ghost use Rattle.dash_model.specs.LockFacts.{MessagesAreInRange, LinesAreOfMemor
 ghost use Rattle.dash_model.specs.MachineLaws.{EventsFixEffects, LanesAreQueues, StepsChangeOnePart, StampsRise, CommitsAreNumbered, EventsHappen, LocalRunsGrow, MergesAreRuns};
 ghost use Rattle.dash_model.specs.OwedFacts.{RunsOweAsLogged};
 ghost use Rattle.dash_model.specs.PendingFacts.{PendingLinesAreKept};
+ghost use Rattle.dash_model.specs.RunLaws.{RunsAreCoherent};
 ghost use Rattle.dash_model.specs.Settling.{WeightFalls};
 ghost use Rattle.dash_model.specs.TableAccesses.{RowsOfAccesses};
 ghost use Rattle.dash_model.specs.TableHarts.{RowsOfHarts};
@@ -38,6 +39,12 @@ pub fn runs_owe_as_logged()
 /// a version that was committed after the cluster last took the line to own.
 pub fn pending_lines_are_kept()
     ensures { PendingLinesAreKept }
+{}
+
+/// Every run is coherent, whatever the image: the writes of each line, and of each lock word, stand in one
+/// order, in which each is seen as what it is, and which no hart sees backwards.
+pub fn runs_are_coherent()
+    ensures { RunsAreCoherent }
 {}
 
 /// In every run the stores of a hart are those that the log commits, in the order of their commits, and
