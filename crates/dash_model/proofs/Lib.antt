@@ -52,6 +52,8 @@ pub mod VersionedContents
 pub mod ShownVersions
 pub mod Floors
 pub mod OwnCommits
+pub mod Settled
+pub mod Late
 pub mod Nowhere
 pub mod Each
 pub mod LockViews
