@@ -35,6 +35,15 @@ pub mod HiddenCopy
 pub mod LineViews
 pub mod PendingFacts
 pub mod BufferFacts
+pub mod Earlier
+pub mod Entries
+pub mod StoreTurns
+pub mod StoreOrder
+pub mod VersionsCount
+pub mod CommitsFollow
+pub mod OwnStores
+pub mod DrainedHarts
+pub mod LockChain
 pub mod Lanes
 pub mod Effects
 pub mod Changes

@@ -57,7 +57,7 @@ line_below w address l i e =
 first_line : (w : Config) → 0 < lines w
 first_line w = let some = w.top.memory_in_range in omega arith
 
-commit_line : (w : Config) (log : List Event) (m : Machine) (c : ℕ) (h : HartId) (n v : ℕ) (k : LineId) → Reaches w log m → CommitFits w c h.0 n k.0 v (m.parts c) → k.0 < lines w
+pub commit_line : (w : Config) (log : List Event) (m : Machine) (c : ℕ) (h : HartId) (n v : ℕ) (k : LineId) → Reaches w log m → CommitFits w c h.0 n k.0 v (m.parts c) → k.0 < lines w
 commit_line w log m c h n v k r g =
     let listed = subst (λ z. IsListed w log h.0 ((m.parts z).harts h.0)) g.mine ((each_reached w log m 0 (first_line w) r).listed h.0) in
     let first = (subst (AllStored w log h.0) g.buffer listed.waiting).0 in
