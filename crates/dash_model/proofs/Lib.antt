@@ -44,6 +44,13 @@ pub mod CommitsFollow
 pub mod OwnStores
 pub mod DrainedHarts
 pub mod LockChain
+pub mod VersionedContents
+pub mod ShownVersions
+pub mod Floors
+pub mod OwnCommits
+pub mod Settled
+pub mod Late
+pub mod ReleasesSeen
 pub mod Lanes
 pub mod Effects
 pub mod Changes
@@ -57,12 +64,6 @@ pub mod Numbered
 pub mod Tests
 pub mod InRuns
 pub mod Happened
-pub mod VersionedContents
-pub mod ShownVersions
-pub mod Floors
-pub mod OwnCommits
-pub mod Settled
-pub mod Late
 pub mod Nowhere
 pub mod Each
 pub mod LockViews
