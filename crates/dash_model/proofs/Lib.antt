@@ -45,6 +45,13 @@ pub mod OwnStores
 pub mod DrainedHarts
 pub mod LockChain
 pub mod RunsCoherent
+pub mod VersionedContents
+pub mod ShownVersions
+pub mod Floors
+pub mod OwnCommits
+pub mod Settled
+pub mod Late
+pub mod ReleasesSeen
 pub mod Lanes
 pub mod Effects
 pub mod Changes
@@ -58,10 +65,6 @@ pub mod Numbered
 pub mod Tests
 pub mod InRuns
 pub mod Happened
-pub mod VersionedContents
-pub mod ShownVersions
-pub mod Floors
-pub mod OwnCommits
 pub mod Nowhere
 pub mod Each
 pub mod LockViews

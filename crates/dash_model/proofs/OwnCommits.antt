@@ -23,7 +23,7 @@ use Rattle.dash_model.specs.Guard.{Guard}
 use Rattle.dash_model.specs.HartRows.{HartEffect, commit_row}
 use Rattle.dash_model.specs.History.{version_of}
 use Rattle.dash_model.specs.LineFacts.{cell_at}
-use Rattle.dash_model.specs.Log.{Commits, IsCommitEvent, IsShown}
+use Rattle.dash_model.specs.Log.{Commits, IsCommitEvent, IsEventAt, IsShown}
 use Rattle.dash_model.specs.Machine.{IsRun, Machine, Step, after, part_after}
 use Rattle.dash_model.specs.Maps.{most, raised}
 use Rattle.dash_model.specs.Part.{Part}
@@ -56,23 +56,21 @@ guard_makes w c v (kind.Rmw a l u) d p hart line g is =
 guard_makes w c v _ d p hart line g is = absurd is
 
 -- where the event of a position commits a version
-pub record MadeAt (w : Config) (log : List Event) (i : ℕ) (hart : HartId) (l v : ℕ) : Type 0 where
-  pub kind : Kind
-  pub at : Happened w log i kind
+pub record MadeAt (w : Config) (log : List Event) (i : ℕ) (k : Kind) (hart : HartId) (l v : ℕ) : Type 0 where
+  pub at : Happened w log i k
   pub made : Made w at.step.event.cluster.0 hart.0 l v (cell_at l at.state at.step.event.cluster.0) (cell_at l (after w at.state at.step) at.step.event.cluster.0)
 
 -- the part of a step's cluster after it
 pub its_cell : (w : Config) (m : Machine) (g : Step) (l : ℕ) → cell_at l (after w m g) g.event.cluster.0 ≡ (row w g.event.cluster.0 g.event.kind g.done (m.parts g.event.cluster.0)).part.cells l
 its_cell w m g l = ap (λ b. (cond b (part_after w g.event.cluster.0 g (m.parts g.event.cluster.0)) (m.parts g.event.cluster.0)).cells l) (same g.event.cluster.0)
 
-pub made_at : (w : Config) (log : List Event) (i : ℕ) (hart : HartId) (line : LineId) (v : ℕ) → IsRun w log → IsCommitEvent log i hart line v → MadeAt w log i hart line.0 v
-made_at w log i hart line v run k =
-    let h = happened w log i k.kind run k.at in
+pub made_at : (w : Config) (log : List Event) (i : ℕ) (k : Kind) (hart : HartId) (line : LineId) (v : ℕ) → IsRun w log → IsEventAt log i k → Commits k hart line v → MadeAt w log i k hart line.0 v
+made_at w log i k hart line v run there is =
+    let h = happened w log i k run there in
     let c = h.step.event.cluster.0 in
     record {
-      kind = k.kind;
       at = h;
-      made = subst (Made w c hart.0 line.0 v (cell_at line.0 h.state c)) (sym (its_cell w h.state h.step line.0)) (guard_makes w c v h.step.event.kind h.step.done (h.state.parts c) hart line h.can.steps.guard (subst (λ z. Commits z hart line v) (sym h.is) k.is));
+      made = subst (Made w c hart.0 line.0 v (cell_at line.0 h.state c)) (sym (its_cell w h.state h.step line.0)) (guard_makes w c v h.step.event.kind h.step.done (h.state.parts c) hart line h.can.steps.guard (subst (λ z. Commits z hart line v) (sym h.is) is));
     }
 
 -- who commits owns the line before and after
@@ -104,7 +102,7 @@ made_floor w log m g l h v now k =
 
 pub own_commits_are_seen : (w : Config) (log : List Event) → IsRun w log → (i j : ℕ) (a : Access) (line : LineId) (u v : ℕ) → i < j → IsCommitEvent log i a.hart line u → IsShown log j a v → line_of w.top a.word ≡ line → u ≤ v
 own_commits_are_seen w log run i j a line u v low commit shown is =
-    let s = made_at w log i a.hart line u run commit in
+    let s = made_at w log i commit.kind a.hart line u run commit.at commit.is in
     let t = shown_at w log j a v run shown in
     let c = s.at.step.event.cluster.0 in
     let l = line_at w a.word.0 in
@@ -112,6 +110,6 @@ own_commits_are_seen w log run i j a line u v low commit shown is =
     let made = subst (λ y. Made w c a.hart.0 y u (cell_at y s.at.state c) (cell_at y (after w s.at.state s.at.step) c)) here s.made in
     let below = shown_low w t.at.step.event.cluster.0 v a (t.at.state.parts t.at.step.event.cluster.0) t.shows in
     let now = next_reached w s.at.before s.at.state s.at.step l below s.at.reached s.at.can in
-    let floor = lasts w (Floor w l u c) (floor_keeps w l u c below) log i j s.kind t.kind run s.at t.at low (made_floor w s.at.before s.at.state s.at.step l a.hart.0 u now made) in
+    let floor = lasts w (Floor w l u c) (floor_keeps w l u c below) log i j commit.kind t.kind run s.at t.at low (made_floor w s.at.before s.at.state s.at.step l a.hart.0 u now made) in
     let there : c ≡ t.at.step.event.cluster.0 = sym s.made.mine ∙ t.shows.mine in
     shown_above w log j u a v t (subst (λ y. Floor w l u y t.at.before t.at.state) there floor)
