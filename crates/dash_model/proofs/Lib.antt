@@ -68,6 +68,7 @@ pub mod LockInstructions
 pub mod ReplaySteps
 pub mod ReplayedHarts
 pub mod SentUnlocks
+pub mod KeptReservations
 pub mod Targets
 pub mod TableCode
 pub mod TableCells
