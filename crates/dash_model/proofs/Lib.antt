@@ -69,6 +69,7 @@ pub mod ReplaySteps
 pub mod ReplayedHarts
 pub mod SentUnlocks
 pub mod KeptReservations
+pub mod CommitPlaces
 pub mod Targets
 pub mod TableCode
 pub mod TableCells
