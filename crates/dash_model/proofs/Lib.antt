@@ -70,6 +70,7 @@ pub mod ReplayedHarts
 pub mod SentUnlocks
 pub mod KeptReservations
 pub mod CommitPlaces
+pub mod ReservedCopies
 pub mod Targets
 pub mod TableCode
 pub mod TableCells
