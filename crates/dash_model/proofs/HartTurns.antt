@@ -150,6 +150,17 @@ module _ (w : Config) where
   answered_core g k true d p e = changed_core g k (record (p.harts g) { core = d.next; asked = false }) p d.next refl
   answered_core g k false d p e = absurd (cc)
 
+-- the access of a load
+pub load_made : (h number : ℕ) (word : WordAddr) (mask : ℕ) (labels : Labels) (reserve : Bool) (old : ℕ) (a : Access) → Some (unseen a) ≡ offered h number (needed.Load word mask labels reserve) old false → a.op ≡ load_op reserve
+load_made h number word mask labels reserve old a made = ap (λ (x : Access). x.op) (ap (λ o. unwrap_or o (unseen a)) made)
+
+-- the access of an atomic operation
+pub rmw_is : (h number old : ℕ) (word : WordAddr) (op : AmoOp) (operand : ℕ) (labels : Labels) (a : Access) → Some (unseen a) ≡ offered h number (needed.Rmw word op operand labels) old true → IsRmw a
+rmw_is h number old word Sc operand labels a made =
+    let is = ap (λ o. unwrap_or o (unseen a)) made in
+    inr (ap (λ (x : Access). x.op) is, subst IsSome (sym (ap (λ (x : Access). x.written) is)) refl)
+rmw_is h number old word _ operand labels a made = inl (ap (λ (x : Access). x.op) (ap (λ o. unwrap_or o (unseen a)) made))
+
 -- the one record of an event
 pub only_record : (e : Kind) (a : StepRecord) (h : HartId) → records_in e ≡ a ∷ [] → hart_of a ≡ h → (r : StepRecord) → records_in e ≡ r ∷ [] → hart_of r ≡ h
 only_record e a h is mine r there = let x : r ≡ a = cc in ap hart_of x ∙ mine
@@ -256,9 +267,6 @@ module _ (w : Config) (c : ℕ) (d : HartEffect) (p : Part) (low : c < w.top.clu
   level_is l n true e = inl e
   level_is l n false e = inr e
 
-  seen_as : (h number : ℕ) (word : WordAddr) (mask : ℕ) (labels : Labels) (reserve : Bool) (old : ℕ) (a : Access) → Some (unseen a) ≡ offered h number (needed.Load word mask labels reserve) old false → a.op ≡ load_op reserve
-  seen_as h number word mask labels reserve old a made = ap (λ (x : Access). x.op) (ap (λ o. unwrap_or o (unseen a)) made)
-
   -- the access of a load, by what the write buffer tells it
   record LoadIs (a : Access) (level : ℕ) : Type 0 where
     pub content : ℕ
@@ -279,7 +287,7 @@ module _ (w : Config) (c : ℕ) (d : HartEffect) (p : Part) (low : c < w.top.clu
         content = old;
         shown = seen.Line (content (p.cells l).copy).version;
         access = from.access;
-        load = from_copy a level reserve (seen_as a.hart.0 (number_of a.hart.0 p) a.word a.mask labels reserve old a made) (record {
+        load = from_copy a level reserve (load_made a.hart.0 (number_of a.hart.0 p) a.word a.mask labels reserve old a made) (record {
           version = (content (p.cells l).copy).version;
           is = from.access.seen_is;
           in_caches = level_is l level (is_line l ((p.harts a.hart.0).l1 (l % w.top.l1))) from.level_is;
@@ -291,16 +299,9 @@ module _ (w : Config) (c : ℕ) (d : HartEffect) (p : Part) (low : c < w.top.clu
         content = value;
         shown = seen.Own number;
         access = from.access;
-        load = inl (seen_as a.hart.0 (number_of a.hart.0 p) a.word a.mask labels reserve value a made ∙ ap load_op from.plain, inr (record { number = number; is = from.access.seen_is; in_buffer = from.level_is }));
+        load = inl (load_made a.hart.0 (number_of a.hart.0 p) a.word a.mask labels reserve value a made ∙ ap load_op from.plain, inr (record { number = number; is = from.access.seen_is; in_buffer = from.level_is }));
       }
   load_is a level labels reserve Wait need from = absurd from
-
-  -- the access of an atomic operation
-  rmw_is : (h number old : ℕ) (word : WordAddr) (op : AmoOp) (operand : ℕ) (labels : Labels) (a : Access) → Some (unseen a) ≡ offered h number (needed.Rmw word op operand labels) old true → IsRmw a
-  rmw_is h number old word Sc operand labels a made =
-      let is = ap (λ o. unwrap_or o (unseen a)) made in
-      inr (ap (λ (x : Access). x.op) is, subst IsSome (sym (ap (λ (x : Access). x.written) is)) refl)
-  rmw_is h number old word _ operand labels a made = inl (ap (λ (x : Access). x.op) (ap (λ o. unwrap_or o (unseen a)) made))
 
   -- the access that was made, of an instruction that needs this
   made_by : (a : Access) (need : Need) (old : ℕ) (succeeds : Bool) (shown : Seen) → d.need ≡ need → IsAccess a.hart.0 (number_of a.hart.0 p) d.need old succeeds shown a → Some (unseen a) ≡ offered a.hart.0 (number_of a.hart.0 p) need old succeeds
@@ -331,7 +332,7 @@ turn w c (kind.Rmw a l v) d p low can well =
     let shown = seen.Line (content (p.cells l.0).copy).version in
     let made = made_by w c d p low a need old true shown can.next.need_is can.access in
     works_on w c d p low (kind.Rmw a l v) (rmw_row w a l.0 d p).part a need old true shown refl can.next (λ y. y) can.access (λ k. (refl, refl))
-    (λ k. acted_core w l.0 k (Commit a.hart.0 (written_in w a.word.0 a.mask (unwrap_or a.written 0) (content (p.cells l.0).copy))) (change a.hart.0 next p) ∙ changed_core w a.hart.0 k next p d.next refl) (λ old new x. (x, rmw_is w c d p low a.hart.0 (number_of a.hart.0 p) (word_in w a.word.0 (content (p.cells l.0).copy)) a.word can.op can.operand can.labels a made))
+    (λ k. acted_core w l.0 k (Commit a.hart.0 (written_in w a.word.0 a.mask (unwrap_or a.written 0) (content (p.cells l.0).copy))) (change a.hart.0 next p) ∙ changed_core w a.hart.0 k next p d.next refl) (λ old new x. (x, rmw_is a.hart.0 (number_of a.hart.0 p) (word_in w a.word.0 (content (p.cells l.0).copy)) a.word can.op can.operand can.labels a made))
 turn w c (kind.ScFail a) d p low can well =
     let need = needed.Rmw a.word Sc can.operand can.labels in
     let is = ap (λ o. unwrap_or o (unseen a)) (made_by w c d p low a need 0 false seen.Nothing can.next.need_is can.access) in

@@ -87,6 +87,9 @@ pub mod LockInstructions
 pub mod ReplaySteps
 pub mod ReplayedHarts
 pub mod SentUnlocks
+pub mod KeptReservations
+pub mod CommitPlaces
+pub mod ReservedCopies
 pub mod Targets
 pub mod TableCode
 pub mod TableCells
