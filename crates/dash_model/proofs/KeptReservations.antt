@@ -36,7 +36,7 @@ use Rattle.dash_model.specs.Ranges.{applies}
 use Rattle.dash_model.specs.LineEffect.{LineEffect}
 use Rattle.dash_model.specs.LineRows.{take_row}
 use Rattle.dash_model.specs.Replay.{IsRmw}
-use Rattle.dash_model.proofs.Turns.{load_made, rmw_is}
+use Rattle.dash_model.proofs.HartTurns.{load_made, rmw_is}
 use Rattle.dash_model.proofs.Nowhere.{inside_line}
 use Rattle.dash_model.proofs.Facts.{asked, held}
 use Rattle.dash_model.proofs.Tests.{is_same, not_same}

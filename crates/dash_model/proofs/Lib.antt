@@ -45,6 +45,7 @@ pub mod OwnStores
 pub mod DrainedHarts
 pub mod LockChain
 pub mod RunsCoherent
+pub mod RunsRelease
 pub mod VersionedContents
 pub mod ShownVersions
 pub mod Floors

@@ -228,7 +228,7 @@ module _ (w : Config) (log : List Event) (m : Machine) (g : Step) (r : Reaches w
       let x = (act_row (line_id l) (home_of w l) a (f c) (home_at w l m)).cell in
       let is : (cell_at l (after w m g) there).copy ≡ (cond (there == c) x (f there)).copy = ap (λ (s : State). (s.cells there).copy) e in
       copy_now (cond (there == c) x (f there)).copy is (copy_at there c (there == c) refl x f h (subst (λ k. held_by h k ≡ true) is after_held) (act_copy (line_id l) (home_of w l) h c a (f c) (home_at w l m) may))
-  copy_by (Takes_one f x first e) after_held =
+  copy_by (Takes_one f x of first e) after_held =
       let there = cluster_of w h in
       let c = g.event.cluster.0 in
       let cells = λ (y : ℕ). cell_at l m y in

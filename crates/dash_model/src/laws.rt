@@ -8,7 +8,7 @@ ghost use Rattle.dash_model.specs.LockFacts.{MessagesAreInRange, LinesAreOfMemor
 ghost use Rattle.dash_model.specs.MachineLaws.{EventsFixEffects, LanesAreQueues, StepsChangeOnePart, StampsRise, CommitsAreNumbered, EventsHappen, LocalRunsGrow, MergesAreRuns};
 ghost use Rattle.dash_model.specs.OwedFacts.{RunsOweAsLogged};
 ghost use Rattle.dash_model.specs.PendingFacts.{PendingLinesAreKept};
-ghost use Rattle.dash_model.specs.RunLaws.{RunsAreCoherent};
+ghost use Rattle.dash_model.specs.RunLaws.{RunsAreCoherent, RunsKeepReleases};
 ghost use Rattle.dash_model.specs.Settling.{WeightFalls};
 ghost use Rattle.dash_model.specs.TableAccesses.{RowsOfAccesses};
 ghost use Rattle.dash_model.specs.TableHarts.{RowsOfHarts};
@@ -45,6 +45,14 @@ pub fn pending_lines_are_kept()
 /// order, in which each is seen as what it is, and which no hart sees backwards.
 pub fn runs_are_coherent()
     ensures { RunsAreCoherent }
+{}
+
+/// Every run keeps the release rule, whatever the image. A release finds its hart's earlier stores
+/// committed, and no acknowledgement owed to the hart; and from then on no one is shown an older version
+/// of a line than those that the hart committed before it. What an atomic operation commits, all later
+/// accesses see.
+pub fn runs_keep_releases()
+    ensures { RunsKeepReleases }
 {}
 
 /// In every run the stores of a hart are those that the log commits, in the order of their commits, and
