@@ -71,6 +71,7 @@ pub mod SentUnlocks
 pub mod KeptReservations
 pub mod CommitPlaces
 pub mod ReservedCopies
+pub mod Reservations
 pub mod Targets
 pub mod TableCode
 pub mod TableCells
