@@ -65,6 +65,7 @@ pub mod Serving
 pub mod LockCounts
 pub mod Turns
 pub mod LockInstructions
+pub mod ServedInstructions
 pub mod ReplaySteps
 pub mod ReplayedHarts
 pub mod SentUnlocks

@@ -40,6 +40,7 @@ use Rattle.dash_model.proofs.Turns.{Answers, Apart, DoesOne, Frees, Gets, GetsAn
 use Rattle.dash_model.proofs.Serving.{answer_msg, one_lock, sent_answers, served, serves}
 use Rattle.dash_model.proofs.LockCounts.{answers, answers_le, less_weight, send_weight}
 use Rattle.dash_model.proofs.LockInstructions.{AllWait, AskOf, IsNextOf, core_at, each_asks}
+use Rattle.dash_model.proofs.ServedInstructions.{is_freed, is_granted}
 use Rattle.dash_model.proofs.LockFacts.{cases_apply, one_each}
 use Rattle.dash_model.proofs.LockBalance.{lock_below, lock_there, weigh_first}
 use Rattle.dash_model.proofs.LockRange.{hart_below, locks_fit}
@@ -287,22 +288,13 @@ module _ (w : Config) (log : List Event) (m : Machine) (g : Step) (r : Reaches w
 
   grants : (a : Access) → g.event.kind ≡ kind.Grant a → GrantFits w c a p → ((k : ℕ) → (q.harts k).core ≡ (p.harts k).core) → ReplayedStep w m g old (kind.Grant a)
   grants a is fits cores =
-      let i = lock_at w a.word.0 in
       let x = fits.waiter in
       let h = a.hart.0 in
-      let mine : h ≡ x.hart = grants_to x.hart x.number x.value 0 a.word a fits.access.made in
-      let low = lock_below w c a.word fits.mine in
-      let home = is_same (lock_home w i) c (lock_there w c a.word fits.mine) in
-      let queue : queue_of w m i ≡ x ∷ fits.others = ap (λ y. ((m.parts y).locks i).queue) home ∙ fits.queue in
-      let waits = (subst (AllWait w h (core_at w m h) i) queue ((each_asks w log m r h).queues i low)).0 (sym mine) in
-      let word : waits.word ≡ a.word = (λ j. record { 0 = one_lock w waits.word.0 a.word.0 waits.lock (both_left (is_lock w a.word.0) (lock_home w i == c) fits.mine) waits.at j }) in
-      let next : IsNextOf w (core_at w m h) x.number (needed.Ask a.word x.value) = subst (λ y. IsNextOf w (core_at w m h) x.number (needed.Ask y x.value)) word waits.next in
-      let place : weigh (is_waiter h) (queue_of w m i) ≡ is_waiter h x + weigh (is_waiter h) fits.others = ap (weigh (is_waiter h)) queue ∙ weigh_first h fits.others x in
-      let there : is_waiter h x ≡ 1 = ap (λ y. one y h) (sym mine) ∙ one_same h in
-      let all = term_le (λ j. weigh (is_waiter h) (queue_of w m j)) i w.top.locks low in
-      let whole = one_each w log m r h in
+      let served = is_granted w log m c a r fits in
+      let mine = served.mine in
+      let next = served.next in
       let few = answers_le h m.net in
-      let most = at_most_one ((m.parts (cluster_of w h)).harts h).asked in
+      let alone = served.alone in
       let none : weigh (answers h) m.net ≡ 0 = omega arith in
       let same = (st h).same none in
       let made = ap (λ o. unwrap_or o (unseen a)) fits.access.made in
@@ -311,7 +303,7 @@ module _ (w : Config) (log : List Event) (m : Machine) (g : Step) (r : Reaches w
       let does = does_as w (core_at w m h) (needed.Ask a.word x.value) next.needs (reply a.read a.written) in
       let number : x.number ≡ (old h).retired + 1 = next.number_is ∙ ap (λ (y : HartState). y.retired + 1) (sym same) in
       let sent : (row w c g.event.kind g.done p).sent ≡ to (cluster_of w x.hart) (LockGrant (hart_id x.hart)) ∷ [] = ap (λ y. (row w c y g.done p).sent) is ∙ grant_sent w c a g.done p x fits.others fits.queue in
-      let below_all : h < all_harts w = subst (λ y. y < all_harts w) (sym mine) (subst (AllAreHarts w) fits.queue ((locks_fit w log m r).queues c i)).0 in
+      let below_all : h < all_harts w = subst (λ y. y < all_harts w) (sym mine) (subst (AllAreHarts w) fits.queue ((locks_fit w log m r).queues c (lock_at w a.word.0))).0 in
       record {
         harts = with_hart old h new;
         replays = (record {
@@ -328,16 +320,13 @@ module _ (w : Config) (log : List Event) (m : Machine) (g : Step) (r : Reaches w
   frees_it f a is fits cores =
       let h = a.hart.0 in
       let value = (p.locks (lock_at w a.word.0)).value in
-      let msg = Unlock a.hart a.number a.word in
       let need = needed.Unlock a.word in
       let first = subst (λ y. AtHead (taken c g.stamp y) m.net) is can.head in
-      let next : IsNextOf w (core_at w m h) a.number need = each_member (λ j y. AskOf w h (core_at w m h) y) (parcel f.0 c msg g.stamp) m.net (on_its_way f.0 c Request (parcel f.0 c msg g.stamp) m.net first) (each_asks w log m r h).net refl in
-      let left = cut f.0 c Request (parcel f.0 c msg g.stamp) m.net first (of_hart h) in
-      let over = cut f.0 c Request (parcel f.0 c msg g.stamp) m.net first (answers h) in
-      let here = one_same h in
-      let whole = one_each w log m r h in
-      let few = answers_le h (tail f.0 c Request m.net) in
-      let most = at_most_one ((m.parts (cluster_of w h)).harts h).asked in
+      let served = is_freed w log m c g.stamp f a r first in
+      let next = served.next in
+      let few = answers_le h (less (taken c g.stamp (kind.Free f a)) m.net) in
+      let alone = served.alone in
+      let over = less_weight h c g.stamp (kind.Free f a) m.net first in
       let none : weigh (answers h) m.net ≡ 0 = omega arith in
       let same = (st h).same none in
       let made = ap (λ o. unwrap_or o (unseen a)) fits.access.made in

@@ -36,6 +36,7 @@ use Rattle.dash_model.proofs.LockViews.{Drops, Freed, Frees, Granted, Grants, Lo
 use Rattle.dash_model.proofs.Turns.{Works, Rests, Sends as SendsOne, Grants as GrantsOne, Frees as FreesOne, Gets}
 use Rattle.dash_event.specs.declared.step_record.StepRecord.TheVariants as step
 use Rattle.dash_model.proofs.LockInstructions.{AskOf, IsNextOf, core_at, each_asks, not_next}
+use Rattle.dash_model.proofs.ServedInstructions.{is_freed, is_granted}
 use Rattle.dash_model.proofs.InRuns.{in_runs}
 use Rattle.dash_model.proofs.Totals.{term_le}
 use Rattle.dash_model.proofs.Each.{Each, EachSent, each_member, less_each, send_each}
@@ -175,30 +176,14 @@ module _ (w : Config) (log : List Event) (m : Machine) (g : Step) (r : Reaches w
   does_silent e q rest false o is k = Unrecorded (record_of e o.hart o.recorded (not_same h o.hart.0 is))
 
   grant_silent : (a : Access) (rest : List Packet) (b : Bool) → (h == a.hart.0) ≡ b → GrantFits w g.event.cluster.0 a (m.parts g.event.cluster.0) → (weigh (of_hart h) m.net ≡ 0 → Each (λ c x. OtherThan h x) rest) → Silent (kind.Grant a) h rest
-  grant_silent a rest true is fits none =
-      let c = g.event.cluster.0 in
-      let i = lock_at w a.word.0 in
-      let x = fits.waiter in
-      let mine : h ≡ x.hart = is_same h a.hart.0 is ∙ grants_to x.hart x.number x.value 0 a.word a fits.access.made in
-      let low = lock_below w c a.word fits.mine in
-      let home = is_same (lock_home w i) c (lock_there w c a.word fits.mine) in
-      let queue : queue_of w m i ≡ x ∷ fits.others = ap (λ y. ((m.parts y).locks i).queue) home ∙ fits.queue in
-      let place : weigh (is_waiter h) (queue_of w m i) ≡ is_waiter h x + weigh (is_waiter h) fits.others = ap (weigh (is_waiter h)) queue ∙ weigh_first h fits.others x in
-      let there : is_waiter h x ≡ 1 = ap (λ y. one y h) (sym mine) ∙ one_same h in
-      let all = term_le (λ j. weigh (is_waiter h) (queue_of w m j)) i w.top.locks low in
-      let whole = one_each w log m r h in
-      let most = at_most_one ((m.parts (cluster_of w h)).harts h).asked in
-      Unsent (none (omega arith))
+  grant_silent a rest true is fits none = Unsent (none (subst (λ y. weigh (of_hart y) m.net ≡ 0) (sym (is_same h a.hart.0 is)) (is_granted w log m g.event.cluster.0 a r fits).alone))
   grant_silent a rest false is fits none = Unrecorded (record_of (kind.Grant a) a.hart (only_record (kind.Grant a) (step.Access (unseen a)) a.hart refl refl) (not_same h a.hart.0 is))
 
   free_silent : (f : ClusterId) (a : Access) (b : Bool) → (h == a.hart.0) ≡ b → AtHead (taken g.event.cluster.0 g.stamp (kind.Free f a)) m.net → Silent (kind.Free f a) h (less (taken g.event.cluster.0 g.stamp (kind.Free f a)) m.net)
   free_silent f a true is first =
       let c = g.event.cluster.0 in
-      let cut_one = cut f.0 c Request (parcel f.0 c (Unlock a.hart a.number a.word) g.stamp) m.net first (of_hart h) in
-      let here : one a.hart.0 h ≡ 1 = ap (one a.hart.0) (is_same h a.hart.0 is) ∙ one_same a.hart.0 in
-      let whole = one_each w log m r h in
-      let most = at_most_one ((m.parts (cluster_of w h)).harts h).asked in
-      Unsent (none_others h (less (taken c g.stamp (kind.Free f a)) m.net) (omega arith))
+      let rest = less (taken c g.stamp (kind.Free f a)) m.net in
+      Unsent (none_others h rest (subst (λ y. weigh (of_hart y) rest ≡ 0) (sym (is_same h a.hart.0 is)) (is_freed w log m c g.stamp f a r first).alone))
   free_silent f a false is first = Unrecorded (record_of (kind.Free f a) a.hart (only_record (kind.Free f a) (step.Access (unseen a)) a.hart refl refl) (not_same h a.hart.0 is))
 
   unrecorded : (e : Kind) → records_in e ≡ [] → NoRecord e h
