@@ -3,31 +3,30 @@ use Rattle.std.proofs.Common.{List, None, Some, [], ap, ap₂, arith, false, if�
 use Rattle.std.proofs.lemmas.Bool.Decides.{nat_tests}
 use Rattle.std.proofs.lemmas.Grind.{flat_map-append}
 use Rattle.std.proofs.lemmas.List.{append_assoc, length-append}
-use Rattle.dash_event.specs.declared.event.Kind.{Kind}
-use Rattle.dash_event.specs.declared.access.Access.{Access}
-use Rattle.dash_base.specs.declared.id.LineId.{LineId}
 use Rattle.dash_base.specs.declared.id.HartId.{HartId}
+use Rattle.dash_base.specs.declared.id.LineId.{LineId}
+use Rattle.dash_event.specs.declared.access.Access.{Access}
 use Rattle.dash_event.specs.declared.event.Event.{Event}
-use Rattle.dash_model.specs.Machine.{IsRun, Machine, Reaches, event_of}
-use Rattle.dash_model.specs.LineContent.{store_in, store_of}
-use Rattle.dash_model.specs.HartGuards.{CommitFits, RmwFits, number_of}
-use Rattle.dash_model.specs.Config.{Config, cluster_of, hart_id, line_at, line_id, lines}
-use Rattle.dash_model.specs.Cell.{Copy, Held, NoCopy}
-use Rattle.dash_model.specs.Words.{content, held_by, in_m}
-use Rattle.dash_model.specs.Part.{Part}
-use Rattle.dash_model.specs.Maps.{member}
-use Rattle.dash_model.specs.History.{version_of}
-use Rattle.dash_model.specs.Log.{Commits, IsEventAt, commit_in, commits_of}
-use Rattle.dash_model.specs.Guard.{Guard}
-use Rattle.dash_model.specs.HartRows.{HartEffect}
-use Rattle.dash_model.proofs.Stores.{AllStored, IsListed, store_kept, stores_in, stores_more}
-use Rattle.dash_model.proofs.Buffers.{number_is}
-use Rattle.dash_model.proofs.Numbered.{commit_numbered, current_version, first_line, next_version, rmw_numbered}
-use Rattle.dash_model.proofs.Tests.{both, same}
-use Rattle.dash_model.proofs.Happened.{happened}
-use Rattle.dash_model.proofs.Along.{at}
-use Rattle.dash_model.proofs.Reached.{each_reached}
+use Rattle.dash_event.specs.declared.event.Kind.{Kind}
 use Rattle.dash_event.specs.declared.event.Kind.TheVariants as kind
+use Rattle.dash_model.specs.Cell.{Copy, Held, NoCopy}
+use Rattle.dash_model.specs.Config.{Config, cluster_of, hart_id, line_at, line_id, lines}
+use Rattle.dash_model.specs.Guard.{Guard}
+use Rattle.dash_model.specs.HartGuards.{CommitFits, RmwFits, number_of}
+use Rattle.dash_model.specs.HartRows.{HartEffect}
+use Rattle.dash_model.specs.History.{version_of}
+use Rattle.dash_model.specs.LineContent.{store_in, store_of}
+use Rattle.dash_model.specs.Log.{Commits, IsEventAt, commit_in, commits_of}
+use Rattle.dash_model.specs.Machine.{IsRun, Machine, Reaches, event_of}
+use Rattle.dash_model.specs.Maps.{member}
+use Rattle.dash_model.specs.Part.{Part}
+use Rattle.dash_model.specs.Words.{content, held_by, in_m}
+use Rattle.dash_model.proofs.Buffers.{number_is}
+use Rattle.dash_model.proofs.Happened.{happened}
+use Rattle.dash_model.proofs.Numbered.{commit_numbered, current_version, first_line, next_version, rmw_numbered}
+use Rattle.dash_model.proofs.Reached.{each_reached}
+use Rattle.dash_model.proofs.Stores.{AllStored, IsListed, store_kept, stores_in, stores_more}
+use Rattle.dash_model.proofs.Tests.{both, same}
 
 -- who commits is in state M
 pub commits_in_m : (w : Config) (c : ℕ) (e : Kind) (d : HartEffect) (p : Part) (t : HartId) (l x : ℕ) → Guard w c e d p → Commits e t (line_id l) x → in_m t.0 (p.cells l).copy ≡ true

@@ -1,43 +1,43 @@
 -- An SC succeeds only by the last LR of its hart, which is of the same word, and since then the hart did no SC, and no other hart committed a write of the word.
 use Rattle.std.proofs.Common.{Bool, List, Option, Some, [], ap, arith, cond, false, length, map, refl, subst, sym, true, unwrap_or, ℕ, ◌++◌, ◌<◌, ◌==◌, ◌∙◌, ◌∷◌, ◌≡◌, ◌≢◌, ◌≤◌}
+use Rattle.dash_base.specs.declared.id.HartId.{HartId}
+use Rattle.dash_base.specs.declared.id.LineId.{LineId}
 use Rattle.dash_base.specs.declared.id.WordAddr.{WordAddr}
 use Rattle.dash_base.specs.declared.instr.Labels.{Labels}
 use Rattle.dash_base.specs.declared.line.Line.{Line}
-use Rattle.dash_event.specs.Offered.{offered}
-use Rattle.dash_base.specs.declared.id.HartId.{HartId}
-use Rattle.dash_event.specs.declared.event.Kind.{Kind}
+use Rattle.dash_base.specs.declared.need.Need.TheVariants as needed
+use Rattle.dash_base.specs.declared.ops.AmoOp.{AmoOp}
 use Rattle.dash_base.specs.declared.ops.AmoOp.TheVariants.{Sc}
+use Rattle.dash_event.specs.Offered.{offered}
 use Rattle.dash_event.specs.Records.{accesses_in, unseen}
 use Rattle.dash_event.specs.declared.access.Access.{Access}
+use Rattle.dash_event.specs.declared.access.Op.TheVariants as op
 use Rattle.dash_event.specs.declared.event.Event.{Event}
-use Rattle.dash_base.specs.declared.ops.AmoOp.{AmoOp}
-use Rattle.dash_base.specs.declared.id.LineId.{LineId}
-use Rattle.dash_model.specs.LineFacts.{cell_at}
+use Rattle.dash_event.specs.declared.event.Kind.{Kind}
+use Rattle.dash_event.specs.declared.event.Kind.TheVariants as kind
+use Rattle.dash_model.specs.Admissible.{IsCommitOf, IsReservedBefore}
 use Rattle.dash_model.specs.Cell.{Copy, Held, NoCopy}
 use Rattle.dash_model.specs.Config.{Config, cluster_of, line_at, line_id, lines}
-use Rattle.dash_model.specs.Machine.{CanHappen, IsRun, Machine, Reaches, Step, after, event_of, part_after}
 use Rattle.dash_model.specs.Guard.{Guard}
-use Rattle.dash_model.specs.History.{version_of}
 use Rattle.dash_model.specs.HartGuards.{HasReserved, number_of}
-use Rattle.dash_model.specs.Words.{content, held_by, in_m, word_in}
 use Rattle.dash_model.specs.HartRows.{HartEffect}
-use Rattle.dash_model.specs.Row.{row}
-use Rattle.dash_model.specs.Part.{Part, Processor}
+use Rattle.dash_model.specs.History.{version_of}
+use Rattle.dash_model.specs.LineFacts.{cell_at}
 use Rattle.dash_model.specs.Log.{Commits, IsAccessEvent, IsEventAt}
-use Rattle.dash_model.specs.Admissible.{IsCommitOf, IsReservedBefore}
-use Rattle.dash_event.specs.declared.access.Op.TheVariants as op
-use Rattle.dash_model.proofs.KeptReservations.{AreHeld, Gone, IsUse, Less, New, NoUse, Old, Reserving, reservations, used_here}
+use Rattle.dash_model.specs.Machine.{CanHappen, IsRun, Machine, Reaches, Step, after, event_of, part_after}
+use Rattle.dash_model.specs.Part.{Part, Processor}
+use Rattle.dash_model.specs.Row.{row}
+use Rattle.dash_model.specs.Words.{content, held_by, in_m, word_in}
 use Rattle.dash_model.proofs.CommitPlaces.{commit_at_most, commit_line_is, commits_next, rmw_guard, rmw_line_is}
-use Rattle.dash_model.proofs.Numbered.{current_version}
-use Rattle.dash_model.proofs.LogPlaces.{AtEnd, EventPlaced, InFront, event_at_last, event_front, event_of_front, event_placed, length_more}
-use Rattle.dash_model.proofs.ReservedCopies.{CopyStep, Fresh, Same, copy_step}
-use Rattle.dash_model.proofs.LineFacts.{runs_keep_lines}
-use Rattle.dash_model.proofs.HartRuns.{hart_at}
-use Rattle.dash_model.proofs.Tests.{is_same, not_same}
 use Rattle.dash_model.proofs.Happened.{Happened, happened}
+use Rattle.dash_model.proofs.HartRuns.{hart_at}
 use Rattle.dash_model.proofs.InRuns.{in_runs}
-use Rattle.dash_base.specs.declared.need.Need.TheVariants as needed
-use Rattle.dash_event.specs.declared.event.Kind.TheVariants as kind
+use Rattle.dash_model.proofs.KeptReservations.{AreHeld, Gone, IsUse, Less, New, NoUse, Old, Reserving, reservations, used_here}
+use Rattle.dash_model.proofs.LineFacts.{runs_keep_lines}
+use Rattle.dash_model.proofs.LogPlaces.{AtEnd, EventPlaced, InFront, event_at_last, event_front, event_of_front, event_placed, length_more, none_after}
+use Rattle.dash_model.proofs.Numbered.{current_version}
+use Rattle.dash_model.proofs.ReservedCopies.{CopyStep, Fresh, Same, copy_step}
+use Rattle.dash_model.proofs.Tests.{is_same, not_same}
 
 -- the log has the LR of a reservation of hart h, which did no LR or SC since; and each commit of the line by another hart since is of a version above v
 pub record IsReservedIn (w : Config) (log : List Event) (h a v : ℕ) : Type 0 where
@@ -63,10 +63,6 @@ pub record AreReserved (w : Config) (log : List Event) (m : Machine) : Type 0 wh
   pub made : (h a : ℕ) → (hart_at w m h).reserved ≡ Some a → IsReservedIn w log h a (version_at w m h a)
 
 module _ (w : Config) (log : List Event) (e : Event) where
-  none_after : (j : ℕ) (k : Kind) → length log < j → EventPlaced log e j k → ⊥
-  none_after j k l (InFront low at) = omega arith
-  none_after j k l (AtEnd last is) = omega arith
-
   -- LR now
   reserved_now : (h a v : ℕ) (r : Access) (level : ℕ) → e.kind ≡ kind.Load r level → r.op ≡ op.Reserve → r.hart.0 ≡ h → r.word.0 ≡ a → line_at w a < lines w → IsReservedIn w (log ++ e ∷ []) h a v
   reserved_now h a v r level is use_is mine word inside = record {
@@ -79,8 +75,8 @@ module _ (w : Config) (log : List Event) (e : Event) where
     is_reserve = use_is;
     same_hart = mine;
     same_word = word;
-    last = λ j b x who kept later. none_after j x.kind later (event_placed log e j x.kind x.at);
-    newer = λ j k t x at of other later. absurd (none_after j k later (event_placed log e j k at));
+    last = λ j b x who kept later. none_after log e j x.kind later (event_placed log e j x.kind x.at);
+    newer = λ j k t x at of other later. absurd (none_after log e j k later (event_placed log e j k at));
   }
 
   still_last : (h at j : ℕ) (b : Access) (k : Kind) → ((j : ℕ) (b : Access) → IsAccessEvent log j b → b.hart.0 ≡ h → IsUse b.op → at < j → ⊥) → NoUse e.kind h → accesses_in k ≡ b ∷ [] → b.hart.0 ≡ h → IsUse b.op → at < j → EventPlaced log e j k → ⊥

@@ -1,54 +1,50 @@
 -- A home frees a lock word only for an Unlock that its hart sent, and since then the hart has done nothing.
-use Rattle.std.proofs.Common.{Bool, List, Some, [], ap, arith, false, length, map, refl, subst, sym, true, ℕ, ◌++◌, ◌+◌, ◌<◌, ◌==◌, ◌∙◌, ◌∷◌, ◌≡◌, ◌≢◌}
-use Rattle.dash_event.specs.declared.event.Event.{Event}
-use Rattle.hart_core.specs.HartState.{HartState}
+use Rattle.std.proofs.Common.{Bool, List, Some, [], ap, arith, false, length, map, refl, subst, sym, true, ℕ, ◌++◌, ◌<◌, ◌==◌, ◌∙◌, ◌∷◌, ◌≡◌, ◌≢◌}
+use Rattle.dash_base.specs.declared.id.ClusterId.{ClusterId}
+use Rattle.dash_base.specs.declared.id.HartId.{HartId}
+use Rattle.dash_base.specs.declared.id.WordAddr.{WordAddr}
+use Rattle.dash_base.specs.declared.need.Need.{Need}
+use Rattle.dash_base.specs.declared.need.Need.TheVariants as needed
+use Rattle.dash_msg.specs.declared.classes.Class.TheVariants.{Request}
+use Rattle.dash_msg.specs.declared.msg.Msg.{Msg}
+use Rattle.dash_msg.specs.declared.msg.Msg.TheVariants.{Unlock}
+use Rattle.dash_msg.specs.declared.parcel.Sent.{Sent}
 use Rattle.dash_event.specs.Effects.{hart_of}
 use Rattle.dash_event.specs.Records.{records_in, unseen}
-use Rattle.dash_event.specs.declared.step_record.StepRecord.{StepRecord}
-use Rattle.dash_base.specs.declared.need.Need.{Need}
-use Rattle.hart_core.specs.Meaning.{Does}
-use Rattle.dash_base.specs.declared.id.HartId.{HartId}
-use Rattle.dash_msg.specs.declared.parcel.Sent.{Sent}
-use Rattle.dash_base.specs.declared.id.ClusterId.{ClusterId}
 use Rattle.dash_event.specs.declared.access.Access.{Access}
-use Rattle.dash_msg.specs.declared.msg.Msg.{Msg}
-use Rattle.dash_base.specs.declared.id.WordAddr.{WordAddr}
-use Rattle.dash_msg.specs.declared.msg.Msg.TheVariants.{Unlock}
+use Rattle.dash_event.specs.declared.event.Event.{Event}
 use Rattle.dash_event.specs.declared.event.Kind.{Kind}
-use Rattle.dash_msg.specs.declared.classes.Class.TheVariants.{Request}
-use Rattle.dash_model.specs.Config.{Config, cluster_of, lock_at, lock_home}
-use Rattle.dash_model.specs.Machine.{AtHead, CanHappen, IsRun, Machine, Reaches, Step, after, event_of, less, taken}
-use Rattle.dash_model.specs.HartRows.{PartEffect}
-use Rattle.dash_model.specs.Net.{Packet, parcel}
-use Rattle.dash_model.specs.OnLine.{is_of, one}
-use Rattle.dash_model.specs.LockFacts.{is_waiter, of_hart, of_hart_msg, queue_of}
+use Rattle.dash_event.specs.declared.event.Kind.TheVariants as kind
+use Rattle.dash_event.specs.declared.step_record.StepRecord.{StepRecord}
+use Rattle.dash_event.specs.declared.step_record.StepRecord.TheVariants as step
+use Rattle.hart_core.specs.HartState.{HartState}
+use Rattle.hart_core.specs.Meaning.{Does}
 use Rattle.dash_model.specs.Admissible.{IsSentBefore}
+use Rattle.dash_model.specs.Config.{Config}
 use Rattle.dash_model.specs.Guard.{GrantFits}
 use Rattle.dash_model.specs.HartGuards.{LockSends, number_of}
-use Rattle.dash_model.specs.Part.{Part}
+use Rattle.dash_model.specs.HartRows.{PartEffect}
+use Rattle.dash_model.specs.LockFacts.{of_hart, of_hart_msg}
 use Rattle.dash_model.specs.Log.{IsEventAt, IsRecordEvent}
+use Rattle.dash_model.specs.Machine.{AtHead, CanHappen, IsRun, Machine, Reaches, Step, after, event_of, less, taken}
 use Rattle.dash_model.specs.Maps.{weigh}
+use Rattle.dash_model.specs.Net.{Packet, parcel}
+use Rattle.dash_model.specs.OnLine.{is_of, one}
+use Rattle.dash_model.specs.Part.{Part}
 use Rattle.dash_model.specs.Row.{row}
-use Rattle.dash_model.proofs.Tests.{at_most_one, is_same, not_same, one_same, same}
-use Rattle.dash_model.proofs.LogPlaces.{AtEnd, EventPlaced, InFront, event_at_last, event_front, event_of_front, event_placed, length_more}
-use Rattle.dash_model.proofs.Turns.{DoesOne, Turn, only_record, turn}
-use Rattle.dash_model.proofs.LockViews.{Drops, Freed, Frees, Granted, Grants, LockView, Plain, Sends, Waits, grants_to, lock_view}
-use Rattle.dash_model.proofs.Turns.{Works, Rests, Sends as SendsOne, Grants as GrantsOne, Frees as FreesOne, Gets}
-use Rattle.dash_event.specs.declared.step_record.StepRecord.TheVariants as step
-use Rattle.dash_model.proofs.LockInstructions.{AskOf, IsNextOf, core_at, each_asks, not_next}
-use Rattle.dash_model.proofs.ServedInstructions.{is_freed, is_granted}
-use Rattle.dash_model.proofs.InRuns.{in_runs}
-use Rattle.dash_model.proofs.Totals.{term_le}
-use Rattle.dash_model.proofs.Each.{Each, EachSent, each_member, less_each, send_each}
-use Rattle.dash_model.proofs.LockBalance.{lock_below, lock_there, weigh_first}
-use Rattle.dash_model.proofs.Happened.{Happened, happened}
-use Rattle.dash_model.proofs.Weigh.{cut}
-use Rattle.dash_model.proofs.LockFacts.{cases_apply, one_each}
-use Rattle.dash_model.proofs.LockCases.{on_its_way}
 use Rattle.dash_model.proofs.Along.{AllAre}
+use Rattle.dash_model.proofs.Each.{Each, EachSent, each_member, less_each, send_each}
+use Rattle.dash_model.proofs.Happened.{Happened, happened}
+use Rattle.dash_model.proofs.InRuns.{in_runs}
+use Rattle.dash_model.proofs.LockCases.{on_its_way}
+use Rattle.dash_model.proofs.LockFacts.{cases_apply}
+use Rattle.dash_model.proofs.LockInstructions.{AskOf, IsNextOf, core_at, each_asks, not_next}
+use Rattle.dash_model.proofs.LockViews.{Drops, Freed, Frees, Granted, Grants, LockView, Plain, Sends, Waits, lock_view}
+use Rattle.dash_model.proofs.LogPlaces.{AtEnd, EventPlaced, InFront, event_at_last, event_front, event_of_front, event_placed, length_more, none_after}
+use Rattle.dash_model.proofs.ServedInstructions.{is_freed, is_granted}
 use Rattle.dash_model.proofs.Serving.{serves}
-use Rattle.dash_base.specs.declared.need.Need.TheVariants as needed
-use Rattle.dash_event.specs.declared.event.Kind.TheVariants as kind
+use Rattle.dash_model.proofs.Tests.{is_same, not_same, one_same}
+use Rattle.dash_model.proofs.Turns.{DoesOne, Turn, only_record, turn, Works, Rests, Sends as SendsOne, Grants as GrantsOne, Frees as FreesOne, Gets}
 
 -- the log has no record of hart h in this event
 abbrev pub NoRecord : Kind → ℕ → Type 0
@@ -61,7 +57,7 @@ pub record IsSentIn (log : List Event) (t : HartId) (n : ℕ) (word : WordAddr) 
   pub before : at < length log
   pub quiet : (j : ℕ) (r : StepRecord) → IsRecordEvent log j r → hart_of r ≡ t → at < j → ⊥
 
--- of hart h
+-- what holds of an Unlock of hart h
 abbrev pub SentOf : List Event → ℕ → Msg → Type 0
 SentOf log h (Unlock t n word) = t.0 ≡ h → IsSentIn log t n word
 SentOf log h m = Unit {0}
@@ -85,17 +81,13 @@ module _ (log : List Event) (e : Event) where
     quiet = λ j r x mine l. still_quiet t s.at s.before s.quiet none j r x.kind x.is mine l (event_placed log e j x.kind x.at);
   }
 
-  none_after : (j : ℕ) (k : Kind) → length log < j → EventPlaced log e j k → ⊥
-  none_after j k l (InFront low at) = omega arith
-  none_after j k l (AtEnd last is) = omega arith
-
   -- the event sends it
   sent_now : (t : HartId) (n : ℕ) (word : WordAddr) → e.kind ≡ kind.LockSend t (Unlock t n word) → IsSentIn (log ++ e ∷ []) t n word
   sent_now t n word is = record {
     at = length log;
     is_at = event_at_last log e ∙ ap Some is;
     before = (let more = length_more log e in omega arith);
-    quiet = λ j r x mine l. none_after j x.kind l (event_placed log e j x.kind x.at);
+    quiet = λ j r x mine l. none_after log e j x.kind l (event_placed log e j x.kind x.at);
   }
 
   carried : (h : ℕ) (m : Msg) → NoRecord e.kind h → SentOf log h m → SentOf (log ++ e ∷ []) h m

@@ -1,30 +1,30 @@
 -- Whom a home serves waits for it with its next instruction, and nothing else of its lock instruction is on its way.
 use Rattle.std.proofs.Common.{List, ap, arith, refl, subst, sym, ℕ, ◌+◌, ◌==◌, ◌∙◌, ◌∷◌, ◌≡◌}
+use Rattle.dash_base.specs.declared.id.ClusterId.{ClusterId}
+use Rattle.dash_base.specs.declared.need.Need.TheVariants as needed
+use Rattle.dash_msg.specs.declared.classes.Class.TheVariants.{Request}
 use Rattle.dash_msg.specs.declared.msg.Msg.TheVariants.{Unlock}
 use Rattle.dash_event.specs.declared.access.Access.{Access}
-use Rattle.dash_msg.specs.declared.classes.Class.TheVariants.{Request}
-use Rattle.dash_base.specs.declared.id.ClusterId.{ClusterId}
 use Rattle.dash_event.specs.declared.event.Event.{Event}
+use Rattle.dash_event.specs.declared.event.Kind.TheVariants as kind
 use Rattle.dash_model.specs.Config.{Config, cluster_of, is_lock, lock_at, lock_home}
+use Rattle.dash_model.specs.Guard.{GrantFits}
 use Rattle.dash_model.specs.LockFacts.{is_waiter, of_hart, queue_of}
-use Rattle.dash_model.specs.Maps.{weigh}
 use Rattle.dash_model.specs.Machine.{AtHead, Machine, Reaches, less, taken}
+use Rattle.dash_model.specs.Maps.{weigh}
 use Rattle.dash_model.specs.Net.{parcel}
 use Rattle.dash_model.specs.OnLine.{one}
 use Rattle.dash_model.specs.Part.{Waiter}
-use Rattle.dash_model.specs.Guard.{GrantFits}
-use Rattle.dash_model.proofs.Serving.{one_lock}
-use Rattle.dash_model.proofs.LockInstructions.{AllWait, AskOf, IsNextOf, core_at, each_asks}
-use Rattle.dash_model.proofs.LockViews.{grants_to}
+use Rattle.dash_model.proofs.Each.{each_member}
 use Rattle.dash_model.proofs.LockBalance.{lock_below, lock_there, weigh_first}
 use Rattle.dash_model.proofs.LockCases.{on_its_way}
-use Rattle.dash_model.proofs.Tests.{at_most_one, both_left, is_same, one_same}
-use Rattle.dash_model.proofs.Each.{each_member}
-use Rattle.dash_model.proofs.Weigh.{cut}
-use Rattle.dash_model.proofs.Totals.{term_le}
 use Rattle.dash_model.proofs.LockFacts.{one_each}
-use Rattle.dash_base.specs.declared.need.Need.TheVariants as needed
-use Rattle.dash_event.specs.declared.event.Kind.TheVariants as kind
+use Rattle.dash_model.proofs.LockInstructions.{AllWait, AskOf, IsNextOf, core_at, each_asks}
+use Rattle.dash_model.proofs.LockViews.{grants_to}
+use Rattle.dash_model.proofs.Serving.{one_lock}
+use Rattle.dash_model.proofs.Tests.{at_most_one, both_left, is_same, one_same}
+use Rattle.dash_model.proofs.Totals.{term_le}
+use Rattle.dash_model.proofs.Weigh.{cut}
 
 -- the waiter that is granted a lock word
 pub record IsGranted (w : Config) (m : Machine) (a : Access) (x : Waiter) : Type 0 where
