@@ -5,29 +5,28 @@ use Rattle.std.proofs.lemmas.Grind.{flat_map-append}
 use Rattle.std.proofs.lemmas.List.{append_assoc, length-append}
 use Rattle.dash_base.specs.declared.id.HartId.{HartId}
 use Rattle.dash_base.specs.declared.id.LineId.{LineId}
-use Rattle.dash_event.specs.declared.event.Event.{Event}
 use Rattle.dash_event.specs.declared.access.Access.{Access}
+use Rattle.dash_event.specs.declared.event.Event.{Event}
 use Rattle.dash_event.specs.declared.event.Kind.{Kind}
-use Rattle.dash_model.specs.Config.{Config, cluster_of, hart_id, line_at, line_id}
+use Rattle.dash_event.specs.declared.event.Kind.TheVariants as kind
 use Rattle.dash_model.specs.Cell.{Copy, Held, NoCopy}
-use Rattle.dash_model.specs.HartGuards.{CommitFits, RmwFits, number_of}
-use Rattle.dash_model.specs.Words.{held_by, in_m}
-use Rattle.dash_model.specs.LineContent.{store_in, store_of}
-use Rattle.dash_model.specs.History.{version_of}
-use Rattle.dash_model.specs.Log.{Commits, IsEventAt, commit_in, commits_of}
-use Rattle.dash_model.specs.Part.{Part}
-use Rattle.dash_model.specs.Maps.{member}
+use Rattle.dash_model.specs.Config.{Config, cluster_of, hart_id, line_at, line_id, lines}
 use Rattle.dash_model.specs.Guard.{Guard}
+use Rattle.dash_model.specs.HartGuards.{CommitFits, RmwFits, number_of}
 use Rattle.dash_model.specs.HartRows.{HartEffect}
-use Rattle.dash_model.specs.Machine.{IsRun, event_of}
-use Rattle.dash_model.proofs.Stores.{AllStored, IsListed, store_kept, stores_in, stores_more}
-use Rattle.dash_model.proofs.Along.{at}
-use Rattle.dash_model.proofs.Numbered.{commit_numbered, first_line, rmw_numbered}
-use Rattle.dash_model.proofs.Reached.{each_reached}
+use Rattle.dash_model.specs.History.{version_of}
+use Rattle.dash_model.specs.LineContent.{store_in, store_of}
+use Rattle.dash_model.specs.Log.{Commits, IsEventAt, commit_in, commits_of}
+use Rattle.dash_model.specs.Machine.{IsRun, Machine, Reaches, event_of}
+use Rattle.dash_model.specs.Maps.{member}
+use Rattle.dash_model.specs.Part.{Part}
+use Rattle.dash_model.specs.Words.{content, held_by, in_m}
 use Rattle.dash_model.proofs.Buffers.{number_is}
 use Rattle.dash_model.proofs.Happened.{happened}
+use Rattle.dash_model.proofs.Numbered.{commit_numbered, current_version, first_line, next_version, rmw_numbered}
+use Rattle.dash_model.proofs.Reached.{each_reached}
+use Rattle.dash_model.proofs.Stores.{AllStored, IsListed, store_kept, stores_in, stores_more}
 use Rattle.dash_model.proofs.Tests.{both, same}
-use Rattle.dash_event.specs.declared.event.Kind.TheVariants as kind
 
 -- who commits is in state M
 pub commits_in_m : (w : Config) (c : ℕ) (e : Kind) (d : HartEffect) (p : Part) (t : HartId) (l x : ℕ) → Guard w c e d p → Commits e t (line_id l) x → in_m t.0 (p.cells l).copy ≡ true
@@ -110,7 +109,7 @@ commit_guard : (w : Config) (c : ℕ) (d : HartEffect) (p : Part) (h : HartId) (
 unfolding Guard
 commit_guard w c d p h n k v can = can
 
-rmw_guard : (w : Config) (c : ℕ) (d : HartEffect) (p : Part) (a : Access) (k : LineId) (v : ℕ) → Guard w c (kind.Rmw a k v) d p → RmwFits w c a k.0 v d p
+pub rmw_guard : (w : Config) (c : ℕ) (d : HartEffect) (p : Part) (a : Access) (k : LineId) (v : ℕ) → Guard w c (kind.Rmw a k v) d p → RmwFits w c a k.0 v d p
 unfolding Guard
 rmw_guard w c d p a k v can = can
 
@@ -133,3 +132,17 @@ rmw_line_is w log j a k v run at =
     let y = happened w log j (kind.Rmw a k v) run at in
     let c = y.step.event.cluster.0 in
     (rmw_guard w c y.step.done (y.state.parts c) a k v (subst (λ z. Guard w c z y.step.done (y.state.parts c)) y.is y.can.steps.guard)).line
+
+-- at its state a commit makes the next version
+pub commits_next : (w : Config) (log : List Event) (m : Machine) (c : ℕ) (e : Kind) (d : HartEffect) (t : HartId) (l x : ℕ) → Reaches w log m → Guard w c e d (m.parts c) → l < lines w → Commits e t (line_id l) x → x ≡ version_of log l + 1
+commits_next w log m c (kind.Commit h n k v) d t l x r can low is =
+    let fits = commit_guard w c d (m.parts c) h n k v can in
+    let same_line = ap (λ (z : LineId). z.0) is.1 in
+    let current = current_version w log m c h.0 k.0 (subst (λ z. z < lines w) (sym same_line) low) r fits.owner in
+    sym is.2 ∙ next_version w log k.0 v (content ((m.parts c).cells k.0).copy).version r.run fits.version_is current ∙ ap (λ z. version_of log z + 1) same_line
+commits_next w log m c (kind.Rmw a k v) d t l x r can low is =
+    let fits = rmw_guard w c d (m.parts c) a k v can in
+    let same_line = ap (λ (z : LineId). z.0) is.1 in
+    let current = current_version w log m c a.hart.0 k.0 (subst (λ z. z < lines w) (sym same_line) low) r fits.owner in
+    sym is.2 ∙ next_version w log k.0 v (content ((m.parts c).cells k.0).copy).version r.run fits.version_is current ∙ ap (λ z. version_of log z + 1) same_line
+commits_next w log m c _ d t l x r can low is = absurd is

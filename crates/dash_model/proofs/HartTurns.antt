@@ -1,54 +1,54 @@
 -- What each event does to the harts of its cluster, as a replay sees it: one does an instruction, has its lock message sent, or gets its answer; a home serves one; or none moves.
 use Rattle.std.proofs.Common.{Bool, List, None, Option, Some, [], ap, cond, false, inl, inr, not, refl, subst, sym, true, unwrap_or, ℕ, ◌%◌, ◌&&◌, ◌++◌, ◌+◌, ◌<◌, ◌==◌, ◌∙◌, ◌∷◌, ◌≡◌, ◌⊎◌}
 use Rattle.std.specs.Prelude.{IsSome}
-use Rattle.dash_msg.specs.declared.msg.Msg.TheVariants.{Ack, Data, DataEx, FwdRead, FwdReadEx, Inval, LockAsk, LockGrant, Nak, Read, ReadEx, SharingBack, Transfer, TransferAck, Unlock, UnlockAck, WriteBack}
-use Rattle.dash_base.specs.declared.ops.AmoOp.TheVariants.{Sc}
-use Rattle.dash_event.specs.declared.access.Seen.{Seen}
-use Rattle.write_buffer.specs.declared.entry.Look.TheVariants.{Hit, None as NoStore, Wait}
-use Rattle.hart_core.specs.HartState.{HartState}
-use Rattle.dash_event.specs.declared.access.Access.{Access}
-use Rattle.write_buffer.specs.declared.entry.Entry.{Entry as Stored}
-use Rattle.dash_base.specs.declared.need.HintKind.TheVariants.{Exclusive, Fetch, Shared}
-use Rattle.dash_event.specs.declared.event.Kind.{Kind}
-use Rattle.dash_event.specs.Records.{records_in, unseen}
-use Rattle.write_buffer.specs.Look.{look_by, newest_of}
-use Rattle.dash_event.specs.Offered.{load_op, offered}
-use Rattle.hart_core.specs.Meaning.{Does}
-use Rattle.dash_base.specs.declared.id.LineId.{LineId}
-use Rattle.write_buffer.specs.declared.entry.Look.{Look}
-use Rattle.dash_base.specs.declared.ops.AmoOp.{AmoOp}
-use Rattle.dash_base.specs.declared.id.HartId.{HartId}
 use Rattle.dash_base.specs.declared.id.ClusterId.{ClusterId}
+use Rattle.dash_base.specs.declared.id.HartId.{HartId}
+use Rattle.dash_base.specs.declared.id.LineId.{LineId}
 use Rattle.dash_base.specs.declared.id.WordAddr.{WordAddr}
-use Rattle.dash_msg.specs.declared.msg.Msg.{Msg}
 use Rattle.dash_base.specs.declared.instr.Labels.{Labels}
+use Rattle.dash_base.specs.declared.need.HintKind.TheVariants.{Exclusive, Fetch, Shared}
+use Rattle.dash_base.specs.declared.need.Need.{Need}
+use Rattle.dash_base.specs.declared.need.Need.TheVariants as needed
+use Rattle.dash_base.specs.declared.ops.AmoOp.{AmoOp}
+use Rattle.dash_base.specs.declared.ops.AmoOp.TheVariants.{Sc}
+use Rattle.dash_msg.specs.declared.msg.Msg.{Msg}
+use Rattle.dash_msg.specs.declared.msg.Msg.TheVariants.{Ack, Data, DataEx, FwdRead, FwdReadEx, Inval, LockAsk, LockGrant, Nak, Read, ReadEx, SharingBack, Transfer, TransferAck, Unlock, UnlockAck, WriteBack}
 use Rattle.dash_event.specs.Effects.{hart_of, reply}
+use Rattle.dash_event.specs.Offered.{load_op, offered}
+use Rattle.dash_event.specs.Records.{records_in, unseen}
+use Rattle.dash_event.specs.declared.access.Access.{Access}
+use Rattle.dash_event.specs.declared.access.Seen.{Seen}
+use Rattle.dash_event.specs.declared.access.Seen.TheVariants as seen
+use Rattle.dash_event.specs.declared.event.Kind.{Kind}
+use Rattle.dash_event.specs.declared.event.Kind.TheVariants as kind
 use Rattle.dash_event.specs.declared.step_record.StepRecord.{StepRecord}
 use Rattle.dash_event.specs.declared.step_record.StepRecord.TheVariants as step
-use Rattle.dash_base.specs.declared.need.Need.{Need}
-use Rattle.dash_model.specs.LineRows.{take_row}
-use Rattle.dash_model.specs.Part.{Part, Processor, Waiter}
+use Rattle.write_buffer.specs.Look.{look_by, newest_of}
+use Rattle.write_buffer.specs.declared.entry.Entry.{Entry as Stored}
+use Rattle.write_buffer.specs.declared.entry.Look.{Look}
+use Rattle.write_buffer.specs.declared.entry.Look.TheVariants.{Hit, None as NoStore, Wait}
+use Rattle.hart_core.specs.HartState.{HartState}
+use Rattle.hart_core.specs.Meaning.{Does}
 use Rattle.dash_model.specs.Acts.{Act, Again, AskOwn, AskRead, BusOwn, BusRead, Commit, Install, act_row}
-use Rattle.dash_model.specs.HartRows.{HartEffect, acts, ask_act, change, cleared, commit_row, entry_of, evict_act, hint_row, install, is_line, kept, load_row, loaded_from, retire, rmw_reserved, rmw_row, sc_fail_row, store_row}
-use Rattle.dash_model.specs.Cell.{NoSlot, Owns, Reads, Slot}
-use Rattle.dash_model.specs.HartGuards.{IsAccess, LoadsBy, LockSendFits, Retires, RetiresAt, number_of}
-use Rattle.dash_model.specs.Config.{Config, all_harts, cluster_of, first_prefetch, home_of, line_at, line_id, lock_at}
-use Rattle.dash_model.specs.Ranges.{applies, has_hart, has_space, in_range, own_hart, own_lock}
 use Rattle.dash_model.specs.Cases.{FindsCase, TakesWell}
+use Rattle.dash_model.specs.Cell.{NoSlot, Owns, Reads, Slot}
+use Rattle.dash_model.specs.Config.{Config, all_harts, cluster_of, first_prefetch, home_of, line_at, line_id, lock_at}
 use Rattle.dash_model.specs.Guard.{DoesIf, FreeFits, GrantFits, Guard, TakeFits}
-use Rattle.dash_model.specs.Replay.{Accesses, Harts, IsLoad, IsRmw, IsShownVersion, Moves, MovesAt, Names, NamesHarts, Replays}
+use Rattle.dash_model.specs.HartGuards.{IsAccess, LoadsBy, LockSendFits, Retires, RetiresAt, number_of}
+use Rattle.dash_model.specs.HartRows.{HartEffect, acts, ask_act, change, cleared, commit_row, entry_of, evict_act, hint_row, install, is_line, kept, load_row, loaded_from, retire, rmw_reserved, rmw_row, sc_fail_row, store_row}
+use Rattle.dash_model.specs.LineRows.{take_row}
 use Rattle.dash_model.specs.LockFacts.{IsLock}
-use Rattle.dash_model.specs.Words.{content, held_by, word_in, written_in}
 use Rattle.dash_model.specs.LockRows.{answered, grant_row}
+use Rattle.dash_model.specs.Part.{Part, Processor, Waiter}
+use Rattle.dash_model.specs.Ranges.{applies, has_hart, has_space, in_range, own_hart, own_lock}
+use Rattle.dash_model.specs.Replay.{Accesses, Harts, IsLoad, IsRmw, IsShownVersion, Moves, MovesAt, Names, NamesHarts, Replays}
 use Rattle.dash_model.specs.Row.{line_msg_row, msg_row, msg_row_if, row}
-use Rattle.dash_model.proofs.LineSteps.{IsLineMsg}
-use Rattle.dash_model.proofs.Tests.{both, both_left, is_below, is_same, same}
+use Rattle.dash_model.specs.Words.{content, held_by, word_in, written_in}
 use Rattle.dash_model.proofs.HartSteps.{answers_now}
+use Rattle.dash_model.proofs.LineSteps.{IsLineMsg}
 use Rattle.dash_model.proofs.LockRange.{hart_below}
 use Rattle.dash_model.proofs.Serving.{serves}
-use Rattle.dash_event.specs.declared.event.Kind.TheVariants as kind
-use Rattle.dash_event.specs.declared.access.Seen.TheVariants as seen
-use Rattle.dash_base.specs.declared.need.Need.TheVariants as needed
+use Rattle.dash_model.proofs.Tests.{both, both_left, is_below, is_same}
 
 -- the event neither serves hart k nor takes its answer
 abbrev pub Apart : Kind → ℕ → Type 0

@@ -1,48 +1,47 @@
 -- What each event does to the reservations of its cluster's harts: LR makes one, SC clears it, and clearing a copy clears those in it; so a reservation's line is held by its hart.
 use Rattle.std.proofs.Common.{Bool, List, None, Option, Some, [], ap, cond, false, inl, inr, not, refl, subst, sym, true, unwrap_or, ℕ, ◌&&◌, ◌++◌, ◌<◌, ◌==◌, ◌∙◌, ◌∷◌, ◌≡◌}
-use Rattle.dash_msg.specs.declared.msg.Msg.TheVariants.{Ack, Data, DataEx, FwdRead, FwdReadEx, Inval, LockAsk, LockGrant, Nak, Read, ReadEx, SharingBack, Transfer, TransferAck, Unlock, UnlockAck, WriteBack}
-use Rattle.write_buffer.specs.declared.entry.Look.TheVariants.{Hit, None as NoStore, Wait}
+use Rattle.dash_base.specs.declared.id.ClusterId.{ClusterId}
+use Rattle.dash_base.specs.declared.id.LineId.{LineId}
 use Rattle.dash_base.specs.declared.instr.Labels.{Labels}
+use Rattle.dash_base.specs.declared.need.HintKind.TheVariants.{Exclusive, Fetch, Shared}
+use Rattle.dash_base.specs.declared.need.Need.{Need}
+use Rattle.dash_base.specs.declared.need.Need.TheVariants as needed
+use Rattle.dash_msg.specs.declared.msg.Msg.{Msg}
+use Rattle.dash_msg.specs.declared.msg.Msg.TheVariants.{Ack, Data, DataEx, FwdRead, FwdReadEx, Inval, LockAsk, LockGrant, Nak, Read, ReadEx, SharingBack, Transfer, TransferAck, Unlock, UnlockAck, WriteBack}
+use Rattle.dash_event.specs.Effects.{reply}
+use Rattle.dash_event.specs.Offered.{load_op, offered}
 use Rattle.dash_event.specs.Records.{accesses_in, unseen}
-use Rattle.write_buffer.specs.declared.entry.Entry.{Entry as Stored}
+use Rattle.dash_event.specs.declared.access.Access.{Access}
 use Rattle.dash_event.specs.declared.access.Op.{Op}
 use Rattle.dash_event.specs.declared.access.Op.TheVariants as op
-use Rattle.dash_base.specs.declared.need.Need.{Need}
-use Rattle.dash_base.specs.declared.id.LineId.{LineId}
-use Rattle.write_buffer.specs.Look.{look_by, newest_of}
-use Rattle.dash_event.specs.Offered.{load_op, offered}
-use Rattle.hart_core.specs.HartState.{HartState}
-use Rattle.dash_msg.specs.declared.msg.Msg.{Msg}
-use Rattle.hart_core.proofs.LawsOffered.{needs_of, proper}
-use Rattle.dash_base.specs.declared.need.HintKind.TheVariants.{Exclusive, Fetch, Shared}
-use Rattle.dash_event.specs.declared.access.Access.{Access}
-use Rattle.hart_core.specs.Access.{IsProper}
-use Rattle.dash_event.specs.Effects.{reply}
-use Rattle.dash_base.specs.declared.id.ClusterId.{ClusterId}
 use Rattle.dash_event.specs.declared.event.Kind.{Kind}
+use Rattle.dash_event.specs.declared.event.Kind.TheVariants as kind
+use Rattle.write_buffer.specs.Look.{look_by, newest_of}
+use Rattle.write_buffer.specs.declared.entry.Entry.{Entry as Stored}
 use Rattle.write_buffer.specs.declared.entry.Look.{Look}
-use Rattle.dash_model.specs.HartRows.{HartEffect, acts, ask_act, cleared, cleared_where_lost, commit_row, entry_of, evict_act, hint_row, kept, load_row, loaded_from, lock_send_row, on_line, reserving, retire, rmw_reserved, sc_fail_row, store_row, unreserved}
-use Rattle.dash_model.specs.Config.{Config, cluster_of, first_prefetch, home_of, line_at, line_id, lines, lock_at}
-use Rattle.dash_model.specs.LockRows.{answered, free_row, grant_row}
-use Rattle.dash_model.specs.Maps.{upd}
-use Rattle.dash_model.specs.Guard.{Guard}
+use Rattle.write_buffer.specs.declared.entry.Look.TheVariants.{Hit, None as NoStore, Wait}
+use Rattle.hart_core.proofs.LawsOffered.{needs_of, proper}
+use Rattle.hart_core.specs.Access.{IsProper}
+use Rattle.hart_core.specs.HartState.{HartState}
 use Rattle.dash_model.specs.Acts.{Act, Again, AskOwn, AskRead, BusOwn, BusRead, Commit, Install, act_row}
-use Rattle.dash_model.specs.Row.{line_msg_row, msg_row, msg_row_if, row}
-use Rattle.dash_model.specs.Part.{Part, Processor, Waiter}
 use Rattle.dash_model.specs.Cell.{Cell, NoSlot, Owns, Reads, Slot}
-use Rattle.dash_model.specs.Words.{content, held_by, word_in, written_in}
+use Rattle.dash_model.specs.Config.{Config, cluster_of, first_prefetch, home_of, line_at, line_id, lines, lock_at}
+use Rattle.dash_model.specs.Guard.{Guard}
 use Rattle.dash_model.specs.HartGuards.{LoadsBy, Retires, number_of}
-use Rattle.dash_model.specs.Ranges.{applies}
+use Rattle.dash_model.specs.HartRows.{HartEffect, acts, ask_act, cleared, cleared_where_lost, commit_row, entry_of, evict_act, hint_row, kept, load_row, loaded_from, lock_send_row, on_line, reserving, retire, rmw_reserved, sc_fail_row, store_row, unreserved}
 use Rattle.dash_model.specs.LineEffect.{LineEffect}
 use Rattle.dash_model.specs.LineRows.{take_row}
+use Rattle.dash_model.specs.LockRows.{answered, free_row, grant_row}
+use Rattle.dash_model.specs.Maps.{upd}
+use Rattle.dash_model.specs.Part.{Part, Processor, Waiter}
+use Rattle.dash_model.specs.Ranges.{applies}
 use Rattle.dash_model.specs.Replay.{IsRmw}
-use Rattle.dash_model.proofs.HartTurns.{load_made, rmw_is}
+use Rattle.dash_model.specs.Row.{line_msg_row, msg_row, msg_row_if, row}
+use Rattle.dash_model.specs.Words.{content, held_by, word_in, written_in}
+use Rattle.dash_model.proofs.Facts.{held}
 use Rattle.dash_model.proofs.Nowhere.{inside_line}
-use Rattle.dash_model.proofs.Facts.{asked, held}
 use Rattle.dash_model.proofs.Tests.{is_same, not_same}
-use Rattle.dash_base.specs.declared.need.Need.TheVariants as needed
-use Rattle.dash_event.specs.declared.event.Kind.TheVariants as kind
-use Rattle.dash_event.specs.declared.access.Op.TheVariants as op
+use Rattle.dash_model.proofs.HartTurns.{load_made, rmw_is}
 
 -- an access by which a reservation begins or ends: LR and SC
 abbrev pub IsUse : Op → Type 0
@@ -83,7 +82,7 @@ abbrev pub AreHeld : Config → Part → Type 0
 AreHeld w p = (h a : ℕ) → (p.harts h).reserved ≡ Some a → held_by h (p.cells (line_at w a)).copy ≡ true
 
 -- what an event makes of the reservations of its part
-pub record ResView (w : Config) (e : Kind) (p q : Part) : Type 0 where
+pub record ReservationView (w : Config) (e : Kind) (p q : Part) : Type 0 where
   pub each : (h : ℕ) → Reserving w e h p (p.harts h) (q.harts h)
   pub held : AreHeld w p → AreHeld w q
 
@@ -115,17 +114,17 @@ module _ (w : Config) where
   kept_fewer l NoSlot b s a e = e
 
   -- a row of a line
-  held_row : (l h a : ℕ) (before next : Bool) (t : Processor) → (line_at w a == l) ≡ true → before ≡ true → next ≡ next → (cond (before && not next) (cleared w l t) t).reserved ≡ Some a → next ≡ true
-  held_row l h a before true t same was is e = refl
-  held_row l h a true false t same was is e = let other = (unreserved_some l a t.reserved e).1 in absurd (cc)
-  held_row l h a false false t same was is e = absurd (cc)
+  held_row : (l h a : ℕ) (before next : Bool) (t : Processor) → (line_at w a == l) ≡ true → before ≡ true → (cond (before && not next) (cleared w l t) t).reserved ≡ Some a → next ≡ true
+  held_row l h a before true t same was e = refl
+  held_row l h a true false t same was e = let other = (unreserved_some l a t.reserved e).1 in absurd (cc)
+  held_row l h a false false t same was e = absurd (cc)
 
   lined_held_by : (l : ℕ) (x : LineEffect) (p : Part) (t : Processor) (h a : ℕ) (i : Bool) → (line_at w a == l) ≡ i → (t.reserved ≡ Some a → held_by h (p.cells (line_at w a)).copy ≡ true)
       → (cleared_where_lost w l (p.cells l).copy x.cell.copy h t).reserved ≡ Some a → held_by h (cond i x.cell (p.cells (line_at w a))).copy ≡ true
   lined_held_by l x p t h a true is held e =
       let same = is_same (line_at w a) l is in
       let was = held (cleared_fewer l (held_by h (p.cells l).copy && not (held_by h x.cell.copy)) t a e) in
-      held_row l h a (held_by h (p.cells l).copy) (held_by h x.cell.copy) t is (ap (λ y. held_by h (p.cells y).copy) (sym same) ∙ was) refl e
+      held_row l h a (held_by h (p.cells l).copy) (held_by h x.cell.copy) t is (ap (λ y. held_by h (p.cells y).copy) (sym same) ∙ was) e
   lined_held_by l x p t h a false is held e = held (cleared_fewer l (held_by h (p.cells l).copy && not (held_by h x.cell.copy)) t a e)
 
   module _ (e : Kind) (p : Part) where
@@ -137,21 +136,21 @@ module _ (w : Config) where
     held_each : (q : Part) → q.cells ≡ p.cells → ((h : ℕ) → Reserving w e h p (p.harts h) (q.harts h)) → AreHeld w p → AreHeld w q
     held_each q cells each k h a is = subst (λ (f : ℕ → Cell). held_by h (f (line_at w a)).copy ≡ true) (sym cells) (held_now h a (p.harts h) (q.harts h) (each h) (k h a) is)
 
-    quiet_res : (q : Part) → q.cells ≡ p.cells → ((h : ℕ) → Reserving w e h p (p.harts h) (q.harts h)) → ResView w e p q
-    quiet_res q cells each = record { each = each; held = held_each q cells each }
+    quiet_view : (q : Part) → q.cells ≡ p.cells → ((h : ℕ) → Reserving w e h p (p.harts h) (q.harts h)) → ReservationView w e p q
+    quiet_view q cells each = record { each = each; held = held_each q cells each }
 
     lined_less : (l h : ℕ) (s t : Processor) (b : Bool) → Lesser e h s t → Lesser e h s (cond b (cleared w l t) t)
     lined_less l h s t b (Old none fewer) = Old none (λ a is. fewer a (cleared_fewer l b t a is))
     lined_less l h s t b (Gone none) = Gone (cleared_none l b t none)
 
-    lined_res : (l : ℕ) (x : LineEffect) (hs : ℕ → Processor) → ((h : ℕ) → Lesser e h (p.harts h) (hs h)) → ResView w e p (on_line w l x (record p { harts = hs })).part
-    lined_res l x hs each = record {
+    lined_view : (l : ℕ) (x : LineEffect) (hs : ℕ → Processor) → ((h : ℕ) → Lesser e h (p.harts h) (hs h)) → ReservationView w e p (on_line w l x (record p { harts = hs })).part
+    lined_view l x hs each = record {
       each = λ h. Less (lined_less l h (p.harts h) (hs h) (held_by h (p.cells l).copy && not (held_by h x.cell.copy)) (each h));
       held = λ k h a is. lined_held_by l x p (hs h) h a (line_at w a == l) refl (held_each (record p { harts = hs }) refl (λ j. Less (each j)) k h a) is;
     }
 
-    acted_res : (l : ℕ) (a : Act) (hs : ℕ → Processor) → ((h : ℕ) → Lesser e h (p.harts h) (hs h)) → ResView w e p (acts w l a (record p { harts = hs })).part
-    acted_res l a hs each = lined_res l (act_row (line_id l) (home_of w l) a (p.cells l) (p.homes l)) hs each
+    acted_view : (l : ℕ) (a : Act) (hs : ℕ → Processor) → ((h : ℕ) → Lesser e h (p.harts h) (hs h)) → ReservationView w e p (acts w l a (record p { harts = hs })).part
+    acted_view l a hs each = lined_view l (act_row (line_id l) (home_of w l) a (p.cells l) (p.homes l)) hs each
 
     -- an event that accesses no word
     none_used : accesses_in e ≡ [] → (h : ℕ) → NoUse e h
@@ -177,54 +176,54 @@ module _ (w : Config) where
     accessed_less : (a : Access) → accesses_in e ≡ a ∷ [] → (h : ℕ) (t : Processor) → Lesser e a.hart.0 (p.harts a.hart.0) t → Lesser e h (p.harts h) (upd p.harts a.hart.0 t h)
     accessed_less a is h t k = at_hart a.hart.0 h t (h == a.hart.0) refl (λ x there. (let same : a ≡ x = cc (is, there) in ap (λ (y : Access). y.hart.0) (sym same))) k
 
-    drained_res : (g l : ℕ) (b : List Stored) → accesses_in e ≡ [] → ResView w e p (commit_row w g l b p).part
-    drained_res g l [] none = quiet_res p refl (λ h. Less (stay (none_used none) h))
-    drained_res g l (x ∷ xs) none =
+    drained_view : (g l : ℕ) (b : List Stored) → accesses_in e ≡ [] → ReservationView w e p (commit_row w g l b p).part
+    drained_view g l [] none = quiet_view p refl (λ h. Less (stay (none_used none) h))
+    drained_view g l (x ∷ xs) none =
         let next = record (p.harts g) { buffer = xs } in
-        acted_res l (Commit g (written_in w x.word.0 x.mask x.value (content (p.cells l).copy))) (upd p.harts g next) (λ h. changed_less none g h next (λ a r. r))
+        acted_view l (Commit g (written_in w x.word.0 x.mask x.value (content (p.cells l).copy))) (upd p.harts g next) (λ h. changed_less none g h next (λ a r. r))
 
-    retired_res : (g : ℕ) (d : HartEffect) → accesses_in e ≡ [] → (h : ℕ) → Lesser e h (p.harts h) ((retire g d p).harts h)
-    retired_res g d none h = changed_less none g h (record (p.harts g) { core = d.next }) (λ a r. r)
+    retired_less : (g : ℕ) (d : HartEffect) → accesses_in e ≡ [] → (h : ℕ) → Lesser e h (p.harts h) ((retire g d p).harts h)
+    retired_less g d none h = changed_less none g h (record (p.harts g) { core = d.next }) (λ a r. r)
 
-    hinted_res : (g : ℕ) (slot : Option ℕ) (need : Need) (d : HartEffect) → accesses_in e ≡ [] → ResView w e p (hint_row w g slot need (retire g d p)).part
-    hinted_res g (Some n) (needed.Hint Exclusive a) d none = acted_res (line_at w a) (AskOwn n g) (retire g d p).harts (retired_res g d none)
-    hinted_res g (Some n) (needed.Hint Shared a) d none = acted_res (line_at w a) (AskRead n g) (retire g d p).harts (retired_res g d none)
-    hinted_res g (Some n) (needed.Hint Fetch a) d none = acted_res (line_at w a) (AskRead n g) (retire g d p).harts (retired_res g d none)
-    hinted_res g _ need d none = quiet_res (retire g d p) refl (λ h. Less (retired_res g d none h))
+    hinted_view : (g : ℕ) (slot : Option ℕ) (need : Need) (d : HartEffect) → accesses_in e ≡ [] → ReservationView w e p (hint_row w g slot need (retire g d p)).part
+    hinted_view g (Some n) (needed.Hint Exclusive a) d none = acted_view (line_at w a) (AskOwn n g) (retire g d p).harts (retired_less g d none)
+    hinted_view g (Some n) (needed.Hint Shared a) d none = acted_view (line_at w a) (AskRead n g) (retire g d p).harts (retired_less g d none)
+    hinted_view g (Some n) (needed.Hint Fetch a) d none = acted_view (line_at w a) (AskRead n g) (retire g d p).harts (retired_less g d none)
+    hinted_view g _ need d none = quiet_view (retire g d p) refl (λ h. Less (retired_less g d none h))
 
-    granted_res : (i : ℕ) (q : List Waiter) → ((h : ℕ) → NoUse e h) → ResView w e p (grant_row w i q p).part
-    granted_res i [] none = quiet_res p refl (λ h. Less (stay none h))
-    granted_res i (x ∷ xs) none = quiet_res (grant_row w i (x ∷ xs) p).part refl (λ h. Less (stay none h))
+    granted_view : (i : ℕ) (q : List Waiter) → ((h : ℕ) → NoUse e h) → ReservationView w e p (grant_row w i q p).part
+    granted_view i [] none = quiet_view p refl (λ h. Less (stay none h))
+    granted_view i (x ∷ xs) none = quiet_view (grant_row w i (x ∷ xs) p).part refl (λ h. Less (stay none h))
 
-    taken_line : (c f : ℕ) (l : LineId) (m : Msg) → accesses_in e ≡ [] → ResView w e p (line_msg_row w c f l m p).part
-    taken_line c f l m none = lined_res l.0 (take_row (first_prefetch w) (home_of w l.0) c f m (p.cells l.0) (p.homes l.0)) p.harts (stay (none_used none))
+    taken_line : (c f : ℕ) (l : LineId) (m : Msg) → accesses_in e ≡ [] → ReservationView w e p (line_msg_row w c f l m p).part
+    taken_line c f l m none = lined_view l.0 (take_row (first_prefetch w) (home_of w l.0) c f m (p.cells l.0) (p.homes l.0)) p.harts (stay (none_used none))
 
-    answered_res : (g : ℕ) (b : Bool) (d : HartEffect) → accesses_in e ≡ [] → ResView w e p (answered g b d p)
-    answered_res g true d none = quiet_res (answered g true d p) refl (λ h. Less (changed_less none g h (record (p.harts g) { core = d.next; asked = false }) (λ a r. r)))
-    answered_res g false d none = quiet_res p refl (λ h. Less (stay (none_used none) h))
+    answered_view : (g : ℕ) (b : Bool) (d : HartEffect) → accesses_in e ≡ [] → ReservationView w e p (answered g b d p)
+    answered_view g true d none = quiet_view (answered g true d p) refl (λ h. Less (changed_less none g h (record (p.harts g) { core = d.next; asked = false }) (λ a r. r)))
+    answered_view g false d none = quiet_view p refl (λ h. Less (stay (none_used none) h))
 
-    taken_res : (c : ℕ) (f : ClusterId) (m : Msg) (d : HartEffect) → accesses_in e ≡ [] → ResView w e p (msg_row w c f.0 m d p).part
-    taken_res c f (Read q) d none = taken_line c f.0 q (Read q) none
-    taken_res c f (ReadEx q) d none = taken_line c f.0 q (ReadEx q) none
-    taken_res c f (FwdRead q r) d none = taken_line c f.0 q (FwdRead q r) none
-    taken_res c f (FwdReadEx q r) d none = taken_line c f.0 q (FwdReadEx q r) none
-    taken_res c f (Inval q r) d none = taken_line c f.0 q (Inval q r) none
-    taken_res c f (WriteBack q x) d none = taken_line c f.0 q (WriteBack q x) none
-    taken_res c f (SharingBack q x r) d none = taken_line c f.0 q (SharingBack q x r) none
-    taken_res c f (Transfer q r) d none = taken_line c f.0 q (Transfer q r) none
-    taken_res c f (Data q x) d none = taken_line c f.0 q (Data q x) none
-    taken_res c f (DataEx q x n) d none = taken_line c f.0 q (DataEx q x n) none
-    taken_res c f (Ack q) d none = taken_line c f.0 q (Ack q) none
-    taken_res c f (TransferAck q) d none = taken_line c f.0 q (TransferAck q) none
-    taken_res c f (Nak q) d none = taken_line c f.0 q (Nak q) none
-    taken_res c f (LockAsk t n word v) d none = quiet_res (msg_row w c f.0 (LockAsk t n word v) d p).part refl (λ h. Less (stay (none_used none) h))
-    taken_res c f (Unlock t n word) d none = quiet_res p refl (λ h. Less (stay (none_used none) h))
-    taken_res c f (LockGrant t) d none = answered_res t.0 (p.harts t.0).asked d none
-    taken_res c f (UnlockAck t old) d none = answered_res t.0 (p.harts t.0).asked d none
+    taken_view : (c : ℕ) (f : ClusterId) (m : Msg) (d : HartEffect) → accesses_in e ≡ [] → ReservationView w e p (msg_row w c f.0 m d p).part
+    taken_view c f (Read q) d none = taken_line c f.0 q (Read q) none
+    taken_view c f (ReadEx q) d none = taken_line c f.0 q (ReadEx q) none
+    taken_view c f (FwdRead q r) d none = taken_line c f.0 q (FwdRead q r) none
+    taken_view c f (FwdReadEx q r) d none = taken_line c f.0 q (FwdReadEx q r) none
+    taken_view c f (Inval q r) d none = taken_line c f.0 q (Inval q r) none
+    taken_view c f (WriteBack q x) d none = taken_line c f.0 q (WriteBack q x) none
+    taken_view c f (SharingBack q x r) d none = taken_line c f.0 q (SharingBack q x r) none
+    taken_view c f (Transfer q r) d none = taken_line c f.0 q (Transfer q r) none
+    taken_view c f (Data q x) d none = taken_line c f.0 q (Data q x) none
+    taken_view c f (DataEx q x n) d none = taken_line c f.0 q (DataEx q x n) none
+    taken_view c f (Ack q) d none = taken_line c f.0 q (Ack q) none
+    taken_view c f (TransferAck q) d none = taken_line c f.0 q (TransferAck q) none
+    taken_view c f (Nak q) d none = taken_line c f.0 q (Nak q) none
+    taken_view c f (LockAsk t n word v) d none = quiet_view (msg_row w c f.0 (LockAsk t n word v) d p).part refl (λ h. Less (stay (none_used none) h))
+    taken_view c f (Unlock t n word) d none = quiet_view p refl (λ h. Less (stay (none_used none) h))
+    taken_view c f (LockGrant t) d none = answered_view t.0 (p.harts t.0).asked d none
+    taken_view c f (UnlockAck t old) d none = answered_view t.0 (p.harts t.0).asked d none
 
-    taken_if : (c : ℕ) (f : ClusterId) (m : Msg) (d : HartEffect) (b : Bool) → accesses_in e ≡ [] → ResView w e p (msg_row_if b w c f.0 m d p).part
-    taken_if c f m d true none = taken_res c f m d none
-    taken_if c f m d false none = quiet_res p refl (λ h. Less (stay (none_used none) h))
+    taken_if : (c : ℕ) (f : ClusterId) (m : Msg) (d : HartEffect) (b : Bool) → accesses_in e ≡ [] → ReservationView w e p (msg_row_if b w c f.0 m d p).part
+    taken_if c f m d true none = taken_view c f m d none
+    taken_if c f m d false none = quiet_view p refl (λ h. Less (stay (none_used none) h))
 
   -- a load, by what the write buffer tells it
   loaded_old : (a : Access) (l : ℕ) (look : Look) (s : Processor) → a.op ≡ op.Load → Fewer s (loaded_from w a l look s)
@@ -237,7 +236,7 @@ module _ (w : Config) where
 
   loaded_new : (c : ℕ) (a : Access) (level : ℕ) (d : HartEffect) (p : Part) (labels : Labels) (reserve : Bool) (look : Look) → Retires w c a.hart.0 (needed.Load a.word a.mask labels reserve) (reply a.read a.written) d p → LoadsBy w look a level reserve d p
       → Reserving w (kind.Load a level) a.hart.0 p (p.harts a.hart.0) (loaded_from w a (line_at w a.word.0) look (record (p.harts a.hart.0) { core = d.next }))
-  loaded_new c a level d p labels reserve (Hit value number) can from = 
+  loaded_new c a level d p labels reserve (Hit value number) can from =
       let made = subst (λ n. Some (unseen a) ≡ offered a.hart.0 (number_of a.hart.0 p) n value false) can.need_is from.access.made in
       let is : a.op ≡ op.Load = load_made a.hart.0 (number_of a.hart.0 p) a.word a.mask labels reserve value a made ∙ ap load_op from.plain in
       Less (Old (not_used (kind.Load a level) p a op.Load refl is (λ x. x) a.hart.0) (λ b r. r))
@@ -262,47 +261,47 @@ module _ (w : Config) where
   rmw_less a l v p next (inr sc) = Gone (ap (λ o. rmw_reserved o (p.harts a.hart.0).reserved) sc.0)
 
 -- each event
-pub reservations : (w : Config) (c : ℕ) (e : Kind) (d : HartEffect) (p : Part) → Guard w c e d p → ResView w e p (row w c e d p).part
+pub reservations : (w : Config) (c : ℕ) (e : Kind) (d : HartEffect) (p : Part) → Guard w c e d p → ReservationView w e p (row w c e d p).part
 unfolding row Guard
-reservations w c (kind.Alu h pc) d p can = quiet_res w (kind.Alu h pc) p (retire h.0 d p) refl (λ k. Less (retired_res w (kind.Alu h pc) p h.0 d refl k))
-reservations w c (kind.Fence h pc) d p can = quiet_res w (kind.Fence h pc) p (retire h.0 d p) refl (λ k. Less (retired_res w (kind.Fence h pc) p h.0 d refl k))
-reservations w c (kind.Hint h pc slot) d p can = hinted_res w (kind.Hint h pc slot) p h.0 slot d.need d refl
-reservations w c (kind.Put h pc byte) d p can = quiet_res w (kind.Put h pc byte) p (retire h.0 d p) refl (λ k. Less (retired_res w (kind.Put h pc byte) p h.0 d refl k))
-reservations w c (kind.Stop h pc end) d p can = quiet_res w (kind.Stop h pc end) p (retire h.0 d p) refl (λ k. Less (retired_res w (kind.Stop h pc end) p h.0 d refl k))
+reservations w c (kind.Alu h pc) d p can = quiet_view w (kind.Alu h pc) p (retire h.0 d p) refl (λ k. Less (retired_less w (kind.Alu h pc) p h.0 d refl k))
+reservations w c (kind.Fence h pc) d p can = quiet_view w (kind.Fence h pc) p (retire h.0 d p) refl (λ k. Less (retired_less w (kind.Fence h pc) p h.0 d refl k))
+reservations w c (kind.Hint h pc slot) d p can = hinted_view w (kind.Hint h pc slot) p h.0 slot d.need d refl
+reservations w c (kind.Put h pc byte) d p can = quiet_view w (kind.Put h pc byte) p (retire h.0 d p) refl (λ k. Less (retired_less w (kind.Put h pc byte) p h.0 d refl k))
+reservations w c (kind.Stop h pc end) d p can = quiet_view w (kind.Stop h pc end) p (retire h.0 d p) refl (λ k. Less (retired_less w (kind.Stop h pc end) p h.0 d refl k))
 reservations w c (kind.Load a level) d p can =
     let look = look_by (newest_of a.word.0 (p.harts a.hart.0).buffer) a.mask in
     let t = loaded_from w a (line_at w a.word.0) look (record (p.harts a.hart.0) { core = d.next }) in
-    quiet_res w (kind.Load a level) p (load_row w a d p).part refl (λ k. load_each w a level k p t (k == a.hart.0) refl (loaded_new w c a level d p can.labels can.reserve look can.next can.from))
+    quiet_view w (kind.Load a level) p (load_row w a d p).part refl (λ k. load_each w a level k p t (k == a.hart.0) refl (loaded_new w c a level d p can.labels can.reserve look can.next can.from))
 reservations w c (kind.Store a) d p can =
     let t = record (p.harts a.hart.0) { core = d.next; buffer = (p.harts a.hart.0).buffer ++ entry_of a ∷ [] } in
     let made = subst (λ n. Some (unseen a) ≡ offered a.hart.0 (number_of a.hart.0 p) n 0 false) can.next.need_is can.access.made in
     let is : a.op ≡ op.Store = ap (λ (y : Access). y.op) (ap (λ o. unwrap_or o (unseen a)) made) in
-    quiet_res w (kind.Store a) p (store_row a d p).part refl (λ k. Less (accessed_less w (kind.Store a) p a refl k t (Old (not_used w (kind.Store a) p a op.Store refl is (λ x. x) a.hart.0) (λ b r. r))))
-reservations w c (kind.Commit h n l v) d p can = drained_res w (kind.Commit h n l v) p h.0 l.0 (p.harts h.0).buffer refl
+    quiet_view w (kind.Store a) p (store_row a d p).part refl (λ k. Less (accessed_less w (kind.Store a) p a refl k t (Old (not_used w (kind.Store a) p a op.Store refl is (λ x. x) a.hart.0) (λ b r. r))))
+reservations w c (kind.Commit h n l v) d p can = drained_view w (kind.Commit h n l v) p h.0 l.0 (p.harts h.0).buffer refl
 reservations w c (kind.Rmw a l v) d p can =
     let t = record (p.harts a.hart.0) { core = d.next; reserved = rmw_reserved a.op (p.harts a.hart.0).reserved } in
     let old = word_in w a.word.0 (content (p.cells l.0).copy) in
     let made = subst (λ n. Some (unseen a) ≡ offered a.hart.0 (number_of a.hart.0 p) n old true) can.next.need_is can.access.made in
-    acted_res w (kind.Rmw a l v) p l.0 (Commit a.hart.0 (written_in w a.word.0 a.mask (unwrap_or a.written 0) (content (p.cells l.0).copy))) (upd p.harts a.hart.0 t)
+    acted_view w (kind.Rmw a l v) p l.0 (Commit a.hart.0 (written_in w a.word.0 a.mask (unwrap_or a.written 0) (content (p.cells l.0).copy))) (upd p.harts a.hart.0 t)
     (λ k. accessed_less w (kind.Rmw a l v) p a refl k t (rmw_less w a l v p d.next (rmw_is a.hart.0 (number_of a.hart.0 p) old a.word can.op can.operand can.labels a made)))
 reservations w c (kind.ScFail a) d p can =
     let t = record (p.harts a.hart.0) { core = d.next; reserved = None } in
-    quiet_res w (kind.ScFail a) p (sc_fail_row a d p).part refl (λ k. Less (accessed_less w (kind.ScFail a) p a refl k t (Gone refl)))
-reservations w c (kind.LockSend h m) d p can = quiet_res w (kind.LockSend h m) p (lock_send_row w h.0 m p).part refl (λ k. Less (changed_less w (kind.LockSend h m) p refl h.0 k (record (p.harts h.0) { asked = true }) (λ a r. r)))
-reservations w c (kind.BusRead h l) d p can = acted_res w (kind.BusRead h l) p l.0 (BusRead h.0) p.harts (stay w (kind.BusRead h l) p (none_used w (kind.BusRead h l) p refl))
-reservations w c (kind.BusOwn h l) d p can = acted_res w (kind.BusOwn h l) p l.0 (BusOwn h.0) p.harts (stay w (kind.BusOwn h l) p (none_used w (kind.BusOwn h l) p refl))
-reservations w c (kind.Evict h l) d p can = acted_res w (kind.Evict h l) p l.0 (evict_act h.0 (p.cells l.0).copy) p.harts (stay w (kind.Evict h l) p (none_used w (kind.Evict h l) p refl))
-reservations w c (kind.Ask slot h l own) d p can = acted_res w (kind.Ask slot h l own) p l.0 (ask_act own slot h.0) p.harts (stay w (kind.Ask slot h l own) p (none_used w (kind.Ask slot h l own) p refl))
-reservations w c (kind.Again slot l) d p can = acted_res w (kind.Again slot l) p l.0 Again p.harts (stay w (kind.Again slot l) p (none_used w (kind.Again slot l) p refl))
+    quiet_view w (kind.ScFail a) p (sc_fail_row a d p).part refl (λ k. Less (accessed_less w (kind.ScFail a) p a refl k t (Gone refl)))
+reservations w c (kind.LockSend h m) d p can = quiet_view w (kind.LockSend h m) p (lock_send_row w h.0 m p).part refl (λ k. Less (changed_less w (kind.LockSend h m) p refl h.0 k (record (p.harts h.0) { asked = true }) (λ a r. r)))
+reservations w c (kind.BusRead h l) d p can = acted_view w (kind.BusRead h l) p l.0 (BusRead h.0) p.harts (stay w (kind.BusRead h l) p (none_used w (kind.BusRead h l) p refl))
+reservations w c (kind.BusOwn h l) d p can = acted_view w (kind.BusOwn h l) p l.0 (BusOwn h.0) p.harts (stay w (kind.BusOwn h l) p (none_used w (kind.BusOwn h l) p refl))
+reservations w c (kind.Evict h l) d p can = acted_view w (kind.Evict h l) p l.0 (evict_act h.0 (p.cells l.0).copy) p.harts (stay w (kind.Evict h l) p (none_used w (kind.Evict h l) p refl))
+reservations w c (kind.Ask slot h l own) d p can = acted_view w (kind.Ask slot h l own) p l.0 (ask_act own slot h.0) p.harts (stay w (kind.Ask slot h l own) p (none_used w (kind.Ask slot h l own) p refl))
+reservations w c (kind.Again slot l) d p can = acted_view w (kind.Again slot l) p l.0 Again p.harts (stay w (kind.Again slot l) p (none_used w (kind.Again slot l) p refl))
 reservations w c (kind.Install slot h l) d p can =
     let t = kept w l.0 (p.cells l.0).slot (held_by h.0 (p.cells l.0).copy) (p.harts h.0) in
-    acted_res w (kind.Install slot h l) p l.0 Install (upd p.harts h.0 t) (λ k. changed_less w (kind.Install slot h l) p refl h.0 k t (kept_fewer w l.0 (p.cells l.0).slot (held_by h.0 (p.cells l.0).copy) (p.harts h.0)))
+    acted_view w (kind.Install slot h l) p l.0 Install (upd p.harts h.0 t) (λ k. changed_less w (kind.Install slot h l) p refl h.0 k t (kept_fewer w l.0 (p.cells l.0).slot (held_by h.0 (p.cells l.0).copy) (p.harts h.0)))
 reservations w c (kind.Grant a) d p can =
     let is : a.op ≡ op.Ask = ap (λ (y : Access). y.op) (ap (λ o. unwrap_or o (unseen a)) can.access.made) in
-    granted_res w (kind.Grant a) p (lock_at w a.word.0) (p.locks (lock_at w a.word.0)).queue (not_used w (kind.Grant a) p a op.Ask refl is (λ x. x))
+    granted_view w (kind.Grant a) p (lock_at w a.word.0) (p.locks (lock_at w a.word.0)).queue (not_used w (kind.Grant a) p a op.Ask refl is (λ x. x))
 reservations w c (kind.Free f a) d p can =
     let is : a.op ≡ op.Unlock = ap (λ (y : Access). y.op) (ap (λ o. unwrap_or o (unseen a)) can.access.made) in
-    quiet_res w (kind.Free f a) p (free_row w (lock_at w a.word.0) a.hart p).part refl (λ k. Less (stay w (kind.Free f a) p (not_used w (kind.Free f a) p a op.Unlock refl is (λ x. x)) k))
+    quiet_view w (kind.Free f a) p (free_row w (lock_at w a.word.0) a.hart p).part refl (λ k. Less (stay w (kind.Free f a) p (not_used w (kind.Free f a) p a op.Unlock refl is (λ x. x)) k))
 reservations w c (kind.Take f m) d p can = taken_if w (kind.Take f m) p c f m d (applies w c m p) refl
 
 -- who does LR or SC is of the cluster

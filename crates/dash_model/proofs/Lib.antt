@@ -85,12 +85,14 @@ pub mod Serving
 pub mod LockCounts
 pub mod HartTurns
 pub mod LockInstructions
+pub mod ServedInstructions
 pub mod ReplaySteps
 pub mod ReplayedHarts
 pub mod SentUnlocks
 pub mod KeptReservations
 pub mod CommitPlaces
 pub mod ReservedCopies
+pub mod Reservations
 pub mod Targets
 pub mod TableCode
 pub mod TableCells

@@ -1,42 +1,42 @@
 -- Each lock message on its way to a home, and each waiter in a queue, is of the next instruction of its hart.
 use Rattle.std.proofs.Common.{Bool, List, [], ap, arith, cond, false, refl, subst, sym, true, ℕ, ◌++◌, ◌+◌, ◌<◌, ◌==◌, ◌∙◌, ◌∷◌, ◌≡◌}
-use Rattle.dash_msg.specs.declared.msg.Msg.TheVariants.{LockAsk, Unlock}
-use Rattle.hart_core.specs.Meaning.{Does, Needs}
-use Rattle.hart_core.specs.HartState.{HartState}
 use Rattle.dash_base.specs.declared.id.WordAddr.{WordAddr}
-use Rattle.dash_msg.specs.declared.parcel.Sent.{Sent}
-use Rattle.dash_event.specs.declared.event.Event.{Event}
 use Rattle.dash_base.specs.declared.need.Need.{Need}
-use Rattle.dash_event.specs.declared.event.Kind.{Kind}
-use Rattle.hart_core.proofs.LawsOffered.{needs_of, one_need}
+use Rattle.dash_base.specs.declared.need.Need.TheVariants as needed
 use Rattle.dash_msg.specs.Classes.{class_of}
 use Rattle.dash_msg.specs.declared.msg.Msg.{Msg}
-use Rattle.dash_model.specs.HartRows.{HartEffect, PartEffect}
-use Rattle.dash_model.specs.Part.{Lock, Part, Processor, Waiter}
-use Rattle.dash_model.specs.Machine.{AtHead, CanHappen, Machine, Reaches, Step, after, less, opening, part_after, sends, taken}
-use Rattle.dash_model.specs.OnLine.{is_of, one}
-use Rattle.dash_model.specs.Ranges.{has_hart, own_lock}
-use Rattle.dash_model.specs.LockFacts.{IsLock, asking, is_waiter, of_hart, of_hart_msg, places_of, queue_of}
-use Rattle.dash_model.specs.Maps.{most, raised, weigh}
-use Rattle.dash_model.specs.Net.{Packet, first, parcel}
-use Rattle.dash_model.specs.Config.{Config, cluster_of, is_lock, lock_at, lock_home}
+use Rattle.dash_msg.specs.declared.msg.Msg.TheVariants.{LockAsk, Unlock}
+use Rattle.dash_msg.specs.declared.parcel.Sent.{Sent}
+use Rattle.dash_event.specs.declared.event.Event.{Event}
+use Rattle.dash_event.specs.declared.event.Kind.{Kind}
+use Rattle.dash_event.specs.declared.event.Kind.TheVariants as kind
+use Rattle.hart_core.proofs.LawsOffered.{needs_of, one_need}
+use Rattle.hart_core.specs.HartState.{HartState}
+use Rattle.hart_core.specs.Meaning.{Does, Needs}
 use Rattle.dash_model.specs.Cases.{TakesWell}
+use Rattle.dash_model.specs.Config.{Config, cluster_of, is_lock, lock_at, lock_home}
 use Rattle.dash_model.specs.Guard.{Guard}
 use Rattle.dash_model.specs.HartGuards.{LockSends}
+use Rattle.dash_model.specs.HartRows.{HartEffect, PartEffect}
+use Rattle.dash_model.specs.LockFacts.{IsLock, asking, is_waiter, of_hart, of_hart_msg, places_of, queue_of}
+use Rattle.dash_model.specs.Machine.{AtHead, CanHappen, Machine, Reaches, Step, after, less, opening, part_after, taken}
+use Rattle.dash_model.specs.Maps.{most, raised, weigh}
+use Rattle.dash_model.specs.Net.{Packet, parcel}
+use Rattle.dash_model.specs.OnLine.{is_of, one}
+use Rattle.dash_model.specs.Part.{Lock, Part, Processor, Waiter}
+use Rattle.dash_model.specs.Ranges.{has_hart, own_lock}
 use Rattle.dash_model.specs.Row.{row}
-use Rattle.dash_model.proofs.Totals.{term_le}
+use Rattle.dash_model.proofs.Along.{AllAre}
 use Rattle.dash_model.proofs.Each.{Each, EachSent, each_member, less_each, send_each}
-use Rattle.dash_model.proofs.HartSteps.{Answered, HartStep, Rests, Sends as Posts, Works, hart_step}
-use Rattle.dash_model.proofs.Tests.{both_left, both_right, is_same, not_same, one_same, same}
-use Rattle.dash_model.proofs.LockCases.{OneEach, on_its_way}
-use Rattle.dash_model.proofs.LockViews.{Drops, Freed, Frees, Granted, Grants, LockView, Plain, Sends, Waits, lock_view}
-use Rattle.dash_model.proofs.LockBalance.{lock_below, lock_there}
-use Rattle.dash_model.proofs.Along.{AllAre, at}
-use Rattle.dash_model.proofs.InRuns.{in_runs}
-use Rattle.dash_model.proofs.LockFacts.{cases_apply, idle_elsewhere, one_each, one_step, opening_one}
 use Rattle.dash_model.proofs.HartRuns.{hart_at}
-use Rattle.dash_base.specs.declared.need.Need.TheVariants as needed
-use Rattle.dash_event.specs.declared.event.Kind.TheVariants as kind
+use Rattle.dash_model.proofs.HartSteps.{Answered, HartStep, Rests, Sends as Posts, Works, hart_step}
+use Rattle.dash_model.proofs.InRuns.{in_runs}
+use Rattle.dash_model.proofs.LockBalance.{lock_below, lock_there}
+use Rattle.dash_model.proofs.LockCases.{OneEach, on_its_way}
+use Rattle.dash_model.proofs.LockFacts.{cases_apply, idle_elsewhere, one_each, one_step, opening_one}
+use Rattle.dash_model.proofs.LockViews.{Drops, Freed, Frees, Granted, Grants, LockView, Plain, Sends, Waits, lock_view}
+use Rattle.dash_model.proofs.Tests.{both_left, both_right, is_same, not_same, one_same}
+use Rattle.dash_model.proofs.Totals.{term_le}
 
 -- the hart's next instruction is of this number, and needs this
 pub record IsNextOf (w : Config) (s : HartState) (number : ℕ) (need : Need) : Type 0 where
@@ -63,7 +63,7 @@ AllWait w h s i (x ∷ xs) = (x.hart ≡ h → WaitsFor w s i x) × AllWait w h 
 abbrev pub core_at : Config → Machine → ℕ → HartState
 core_at w m h = (hart_at w m h).core
 
--- of hart h, in this state of it
+-- all that hart h sent to a home, and its places in queues, are of its next instruction, where its core is s
 pub record Asks (w : Config) (h : ℕ) (s : HartState) (m : Machine) : Type 0 where
   pub net : Each (λ c x. AskOf w h s x) m.net
   pub queues : (i : ℕ) → i < w.top.locks → AllWait w h s i (queue_of w m i)
@@ -204,7 +204,7 @@ each_hart w log m g r can h =
     let c = g.event.cluster.0 in
     hart_by w m c g.event.kind g.done h (part_after w c g (m.parts c)) (cluster_of w h == c) refl refl can.steps.guard (cases_apply w log m g r can)
 
--- of each hart
+-- the same of each hart
 abbrev pub EachAsks : Config → Machine → Type 0
 EachAsks w m = (h : ℕ) → Asks w h (core_at w m h) m
 

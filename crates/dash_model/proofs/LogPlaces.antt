@@ -54,3 +54,8 @@ event_at_last log e = ap (option_map (λ (x : Event). x.kind)) (at_last log e)
 pub length_more : (log : List Event) (e : Event) → length (log ++ e ∷ []) ≡ length log + 1
 length_more [] e = refl
 length_more (x ∷ xs) e = let rest = length_more xs e in omega arith
+
+-- nothing stands after it
+pub none_after : (log : List Event) (e : Event) (j : ℕ) (k : Kind) → length log < j → EventPlaced log e j k → ⊥
+none_after log e j k l (InFront low at) = omega arith
+none_after log e j k l (AtEnd last is) = omega arith

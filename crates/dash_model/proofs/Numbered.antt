@@ -68,7 +68,7 @@ pub current_version : (w : Config) (log : List Event) (m : Machine) (c h l : ℕ
     → (content ((m.parts c).cells l).copy).version ≡ version_of log l
 current_version w log m c h l i r owner = owner_version ((m.parts c).cells l).copy h (version_of log l) owner (λ hs o d is. ((runs_keep_lines w log m l i r).token.owner c hs o d is).version)
 
-next_version : (w : Config) (log : List Event) (l v n : ℕ) → IsRun w log → v ≡ raised most n → n ≡ version_of log l → v ≡ version_of log l + 1
+pub next_version : (w : Config) (log : List Event) (l v n : ℕ) → IsRun w log → v ≡ raised most n → n ≡ version_of log l → v ≡ version_of log l + 1
 next_version w log l v n r e f = e ∙ ap (raised most) f ∙ raised_below (version_of log l) (below_greatest w log (line_id l) r)
 
 pub commit_numbered : (w : Config) (before rest : List Event) (e : Event) (h : HartId) (n : ℕ) (k : LineId) (v : ℕ)

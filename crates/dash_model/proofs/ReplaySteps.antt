@@ -1,58 +1,52 @@
 -- One step of a run, replayed: a hart whose lock instruction its home has served is ahead of the machine's by that instruction, and every other hart is the machine's.
 use Rattle.std.proofs.Common.{Bool, List, [], ap, arith, cond, false, refl, subst, sym, true, unwrap_or, ℕ, ◌+◌, ◌<◌, ◌==◌, ◌∙◌, ◌∷◌, ◌≡◌, ◌≢◌, ◌≤◌}
-use Rattle.dash_event.specs.declared.access.Access.{Access}
-use Rattle.dash_event.specs.Effects.{reply}
-use Rattle.hart_core.proofs.LawsOffered.{needs_of, one_after, one_need}
-use Rattle.dash_msg.specs.declared.classes.Class.TheVariants.{Request}
-use Rattle.dash_msg.specs.declared.msg.Msg.TheVariants.{LockAsk, LockGrant, Unlock, UnlockAck}
 use Rattle.dash_base.specs.Places.{hart_count}
-use Rattle.hart_core.specs.Meaning.{Does, IsFinished, Needs, after_need}
-use Rattle.dash_base.specs.declared.id.HartId.{HartId}
-use Rattle.hart_core.specs.HartState.{HartState}
-use Rattle.dash_event.specs.Records.{unseen}
-use Rattle.dash_base.specs.declared.topology.Topology.{Topology}
-use Rattle.dash_event.specs.declared.event.Kind.{Kind}
 use Rattle.dash_base.specs.declared.id.ClusterId.{ClusterId}
-use Rattle.dash_msg.specs.Classes.{class_of}
+use Rattle.dash_base.specs.declared.id.HartId.{HartId}
 use Rattle.dash_base.specs.declared.need.Need.{Need}
-use Rattle.dash_event.specs.declared.event.Event.{Event}
-use Rattle.dash_msg.specs.declared.parcel.Sent.{Sent}
+use Rattle.dash_base.specs.declared.need.Need.TheVariants as needed
+use Rattle.dash_base.specs.declared.topology.Topology.{Topology}
+use Rattle.dash_msg.specs.Classes.{class_of}
 use Rattle.dash_msg.specs.declared.msg.Msg.{Msg}
+use Rattle.dash_msg.specs.declared.msg.Msg.TheVariants.{LockAsk, LockGrant, Unlock, UnlockAck}
+use Rattle.dash_msg.specs.declared.parcel.Sent.{Sent}
+use Rattle.dash_event.specs.Effects.{reply}
 use Rattle.dash_event.specs.Offered.{offered}
-use Rattle.dash_model.specs.Machine.{AtHead, CanHappen, Machine, Reaches, Step, after, less, part_after, taken}
-use Rattle.dash_model.specs.Config.{Config, all_harts, cluster_of, hart_id, is_lock, lock_at, lock_home}
-use Rattle.dash_model.specs.Net.{Packet, parcel, tail, to}
-use Rattle.dash_model.specs.Replay.{Harts, IsLockMsg, Moves, NamesHarts, Replays}
+use Rattle.dash_event.specs.Records.{unseen}
+use Rattle.dash_event.specs.declared.access.Access.{Access}
+use Rattle.dash_event.specs.declared.event.Event.{Event}
+use Rattle.dash_event.specs.declared.event.Kind.{Kind}
+use Rattle.dash_event.specs.declared.event.Kind.TheVariants as kind
+use Rattle.hart_core.proofs.LawsOffered.{needs_of, one_after, one_need}
+use Rattle.hart_core.specs.HartState.{HartState}
+use Rattle.hart_core.specs.Meaning.{Does, IsFinished, Needs, after_need}
+use Rattle.dash_model.specs.Config.{Config, all_harts, cluster_of, hart_id, lock_at}
 use Rattle.dash_model.specs.Guard.{FreeFits, GrantFits}
 use Rattle.dash_model.specs.HartGuards.{LockSendFits, LockSends, number_of}
-use Rattle.dash_model.specs.OnLine.{one}
-use Rattle.dash_model.specs.LockRows.{grant_row}
-use Rattle.dash_model.specs.Ranges.{has_hart, in_range, own_lock}
-use Rattle.dash_model.specs.Part.{Part, Waiter}
-use Rattle.dash_model.specs.Words.{content}
-use Rattle.dash_model.specs.LockFacts.{AllAreHarts, IsLock, asking, is_waiter, of_hart, queue_of}
 use Rattle.dash_model.specs.HartRows.{HartEffect}
-use Rattle.dash_model.specs.Row.{row}
+use Rattle.dash_model.specs.LockFacts.{AllAreHarts, IsLock, asking}
+use Rattle.dash_model.specs.LockRows.{grant_row}
+use Rattle.dash_model.specs.Machine.{AtHead, CanHappen, Machine, Reaches, Step, after, less, part_after, taken}
 use Rattle.dash_model.specs.Maps.{weigh}
-use Rattle.dash_model.proofs.LockViews.{grants_to}
+use Rattle.dash_model.specs.Net.{Packet, parcel, to}
+use Rattle.dash_model.specs.OnLine.{one}
+use Rattle.dash_model.specs.Part.{Part, Waiter}
+use Rattle.dash_model.specs.Ranges.{has_hart, own_lock}
+use Rattle.dash_model.specs.Replay.{Harts, IsLockMsg, Moves, NamesHarts, Replays}
+use Rattle.dash_model.specs.Row.{row}
+use Rattle.dash_model.proofs.Asking.{ask_first}
+use Rattle.dash_model.proofs.Each.{Each, EachSent, each_member, less_each, send_each}
+use Rattle.dash_model.proofs.HartRuns.{hart_at}
+use Rattle.dash_model.proofs.HartSteps.{answers_now}
+use Rattle.dash_model.proofs.LockCases.{on_its_way}
+use Rattle.dash_model.proofs.LockCounts.{answers, answers_le, less_weight, send_weight}
+use Rattle.dash_model.proofs.LockFacts.{cases_apply, one_each}
+use Rattle.dash_model.proofs.LockInstructions.{core_at}
+use Rattle.dash_model.proofs.LockRange.{hart_below, locks_fit}
+use Rattle.dash_model.proofs.ServedInstructions.{is_freed, is_granted}
+use Rattle.dash_model.proofs.Serving.{answer_msg, sent_answers, served, serves}
 use Rattle.dash_model.proofs.Tests.{at_most_one, both_left, both_right, differ, is_below, is_same, not_same, one_other, one_same, same}
 use Rattle.dash_model.proofs.HartTurns.{Answers, Apart, DoesOne, Frees, Gets, GetsAnswer, Grants, Rests, Sends, Turn, Works, turn}
-use Rattle.dash_model.proofs.Serving.{answer_msg, one_lock, sent_answers, served, serves}
-use Rattle.dash_model.proofs.LockCounts.{answers, answers_le, less_weight, send_weight}
-use Rattle.dash_model.proofs.LockInstructions.{AllWait, AskOf, IsNextOf, core_at, each_asks}
-use Rattle.dash_model.proofs.LockFacts.{cases_apply, one_each}
-use Rattle.dash_model.proofs.LockBalance.{lock_below, lock_there, weigh_first}
-use Rattle.dash_model.proofs.LockRange.{hart_below, locks_fit}
-use Rattle.dash_model.proofs.HartRuns.{hart_at}
-use Rattle.dash_model.proofs.Each.{Each, EachSent, each_member, less_each, send_each}
-use Rattle.dash_model.proofs.Asking.{ask_first}
-use Rattle.dash_model.proofs.Weigh.{cut}
-use Rattle.dash_model.proofs.HartSteps.{answers_now}
-use Rattle.dash_model.proofs.Facts.{other}
-use Rattle.dash_model.proofs.Totals.{term_le}
-use Rattle.dash_model.proofs.LockCases.{on_its_way}
-use Rattle.dash_event.specs.declared.event.Kind.TheVariants as kind
-use Rattle.dash_base.specs.declared.need.Need.TheVariants as needed
 
 -- what an answer on its way to hart h makes of its core
 abbrev pub AnswerOf : Config → ℕ → HartState → HartState → Msg → Type 0
@@ -120,9 +114,9 @@ few_answers : (w : Config) (log : List Event) (m : Machine) → Reaches w log m 
 few_answers w log m r h = let one = one_each w log m r h in let le = answers_le h m.net in (omega arith, at_most_one ((m.parts (cluster_of w h)).harts h).asked)
 
 unasked : (w : Config) (log : List Event) (m : Machine) → Reaches w log m → (h : ℕ) → (hart_at w m h).asked ≡ false → weigh (answers h) m.net ≡ 0
-unasked w log m r h unserved =
+unasked w log m r h unsent =
     let few = few_answers w log m r h in
-    let none : asking w m h ≡ 0 = ap (λ b. cond b 1 0) unserved in
+    let none : asking w m h ≡ 0 = ap (λ b. cond b 1 0) unsent in
     let low = few.0 in
     omega arith
 
@@ -143,7 +137,7 @@ at_hart g t s = ap (λ b. cond b t s) (same g)
 off_hart : (g k : ℕ) (t s : HartState) → k ≢ g → cond (k == g) t s ≡ s
 off_hart g k t s d = ap (λ b. cond b t s) (differ k g d)
 
--- the new harts, how the event replays, and where they stand
+-- the replayed harts after a step: the event makes them of those before it, and they stand where they should
 pub record ReplayedStep (w : Config) (m : Machine) (g : Step) (old : Harts) (e : Kind) : Type 0 where
   pub harts : Harts
   pub replays : Replays w.image w.top old e harts
@@ -254,8 +248,8 @@ module _ (w : Config) (log : List Event) (m : Machine) (g : Step) (r : Reaches w
   sends : (h : HartId) (x : Msg) → g.event.kind ≡ kind.LockSend h x → LockSendFits w c h.0 x p → ((k : ℕ) → (q.harts k).core ≡ (p.harts k).core) → ReplayedStep w m g old (kind.LockSend h x)
   sends h x is fits cores =
       let there : core_at w m h.0 ≡ (p.harts h.0).core = ap (λ y. ((m.parts y).harts h.0).core) fits.mine in
-      let unserved : (hart_at w m h.0).asked ≡ false = ap (λ y. ((m.parts y).harts h.0).asked) fits.mine ∙ fits.unsent in
-      let same = (st h.0).same (unasked w log m r h.0 unserved) in
+      let unsent : (hart_at w m h.0).asked ≡ false = ap (λ y. ((m.parts y).harts h.0).asked) fits.mine ∙ fits.unsent in
+      let same = (st h.0).same (unasked w log m r h.0 unsent) in
       record {
         harts = old;
         replays = record {
@@ -287,22 +281,13 @@ module _ (w : Config) (log : List Event) (m : Machine) (g : Step) (r : Reaches w
 
   grants : (a : Access) → g.event.kind ≡ kind.Grant a → GrantFits w c a p → ((k : ℕ) → (q.harts k).core ≡ (p.harts k).core) → ReplayedStep w m g old (kind.Grant a)
   grants a is fits cores =
-      let i = lock_at w a.word.0 in
       let x = fits.waiter in
       let h = a.hart.0 in
-      let mine : h ≡ x.hart = grants_to x.hart x.number x.value 0 a.word a fits.access.made in
-      let low = lock_below w c a.word fits.mine in
-      let home = is_same (lock_home w i) c (lock_there w c a.word fits.mine) in
-      let queue : queue_of w m i ≡ x ∷ fits.others = ap (λ y. ((m.parts y).locks i).queue) home ∙ fits.queue in
-      let waits = (subst (AllWait w h (core_at w m h) i) queue ((each_asks w log m r h).queues i low)).0 (sym mine) in
-      let word : waits.word ≡ a.word = (λ j. record { 0 = one_lock w waits.word.0 a.word.0 waits.lock (both_left (is_lock w a.word.0) (lock_home w i == c) fits.mine) waits.at j }) in
-      let next : IsNextOf w (core_at w m h) x.number (needed.Ask a.word x.value) = subst (λ y. IsNextOf w (core_at w m h) x.number (needed.Ask y x.value)) word waits.next in
-      let place : weigh (is_waiter h) (queue_of w m i) ≡ is_waiter h x + weigh (is_waiter h) fits.others = ap (weigh (is_waiter h)) queue ∙ weigh_first h fits.others x in
-      let there : is_waiter h x ≡ 1 = ap (λ y. one y h) (sym mine) ∙ one_same h in
-      let all = term_le (λ j. weigh (is_waiter h) (queue_of w m j)) i w.top.locks low in
-      let whole = one_each w log m r h in
+      let served = is_granted w log m c a r fits in
+      let mine = served.mine in
+      let next = served.next in
       let few = answers_le h m.net in
-      let most = at_most_one ((m.parts (cluster_of w h)).harts h).asked in
+      let alone = served.alone in
       let none : weigh (answers h) m.net ≡ 0 = omega arith in
       let same = (st h).same none in
       let made = ap (λ o. unwrap_or o (unseen a)) fits.access.made in
@@ -311,16 +296,19 @@ module _ (w : Config) (log : List Event) (m : Machine) (g : Step) (r : Reaches w
       let does = does_as w (core_at w m h) (needed.Ask a.word x.value) next.needs (reply a.read a.written) in
       let number : x.number ≡ (old h).retired + 1 = next.number_is ∙ ap (λ (y : HartState). y.retired + 1) (sym same) in
       let sent : (row w c g.event.kind g.done p).sent ≡ to (cluster_of w x.hart) (LockGrant (hart_id x.hart)) ∷ [] = ap (λ y. (row w c y g.done p).sent) is ∙ grant_sent w c a g.done p x fits.others fits.queue in
-      let below_all : h < all_harts w = subst (λ y. y < all_harts w) (sym mine) (subst (AllAreHarts w) fits.queue ((locks_fit w log m r).queues c i)).0 in
+      let below_all : h < all_harts w = subst (λ y. y < all_harts w) (sym mine) (subst (AllAreHarts w) fits.queue ((locks_fit w log m r).queues c (lock_at w a.word.0))).0 in
       record {
         harts = with_hart old h new;
-        replays = (record {
-          need = needed.Ask a.word x.value;
-          moves = moves_one a.hart new (needed.Ask a.word x.value) (reply a.read a.written) below_all same does;
-          content = 0;
-          succeeds = true;
-          is_offered = ap (λ y. offered h y (needed.Ask a.word x.value) 0 true) (sym number) ∙ ap (λ y. offered y x.number (needed.Ask a.word x.value) 0 true) mine ∙ sym fits.access.made;
-        }, ap (λ (y : Access). y.op) made);
+        replays = (
+          record {
+            need = needed.Ask a.word x.value;
+            moves = moves_one a.hart new (needed.Ask a.word x.value) (reply a.read a.written) below_all same does;
+            content = 0;
+            succeeds = true;
+            is_offered = ap (λ y. offered h y (needed.Ask a.word x.value) 0 true) (sym number) ∙ ap (λ y. offered y x.number (needed.Ask a.word x.value) 0 true) mine ∙ sym fits.access.made;
+          },
+          ap (λ (y : Access). y.op) made,
+        );
         stands = λ k. subst (λ s. Stands w k s (with_hart old h new k) (after w m g).net) (sym (still cores k)) (serve_stands a.hart new (LockGrant (hart_id x.hart)) (cluster_of w x.hart) none (λ j. (ap (λ y. serves y j) is, ap (λ y. answers_now y j) is)) sent (λ e. record { need = needed.Ask a.word x.value; does = subst (λ y. Does w.image w.top (core_at w m h) (needed.Ask a.word x.value) y new) zero_is does }) k (k == h) refl);
       }
 
@@ -328,16 +316,13 @@ module _ (w : Config) (log : List Event) (m : Machine) (g : Step) (r : Reaches w
   frees_it f a is fits cores =
       let h = a.hart.0 in
       let value = (p.locks (lock_at w a.word.0)).value in
-      let msg = Unlock a.hart a.number a.word in
       let need = needed.Unlock a.word in
       let first = subst (λ y. AtHead (taken c g.stamp y) m.net) is can.head in
-      let next : IsNextOf w (core_at w m h) a.number need = each_member (λ j y. AskOf w h (core_at w m h) y) (parcel f.0 c msg g.stamp) m.net (on_its_way f.0 c Request (parcel f.0 c msg g.stamp) m.net first) (each_asks w log m r h).net refl in
-      let left = cut f.0 c Request (parcel f.0 c msg g.stamp) m.net first (of_hart h) in
-      let over = cut f.0 c Request (parcel f.0 c msg g.stamp) m.net first (answers h) in
-      let here = one_same h in
-      let whole = one_each w log m r h in
-      let few = answers_le h (tail f.0 c Request m.net) in
-      let most = at_most_one ((m.parts (cluster_of w h)).harts h).asked in
+      let served = is_freed w log m c g.stamp f a r first in
+      let next = served.next in
+      let few = answers_le h (less (taken c g.stamp (kind.Free f a)) m.net) in
+      let alone = served.alone in
+      let over = less_weight h c g.stamp (kind.Free f a) m.net first in
       let none : weigh (answers h) m.net ≡ 0 = omega arith in
       let same = (st h).same none in
       let made = ap (λ o. unwrap_or o (unseen a)) fits.access.made in
@@ -348,13 +333,16 @@ module _ (w : Config) (log : List Event) (m : Machine) (g : Step) (r : Reaches w
       let sent : (row w c g.event.kind g.done p).sent ≡ to (cluster_of w h) (UnlockAck a.hart value) ∷ [] = ap (λ y. (row w c y g.done p).sent) is ∙ free_sent w c f a g.done p in
       record {
         harts = with_hart old h new;
-        replays = (record {
-          need = need;
-          moves = moves_one a.hart new need (reply a.read a.written) (is_below h (all_harts w) (both_left (has_hart w a.hart) (own_lock w c a.word) fits.serves)) same does;
-          content = value;
-          succeeds = true;
-          is_offered = ap (λ y. offered h y need value true) (sym number) ∙ sym fits.access.made;
-        }, ap (λ (y : Access). y.op) made);
+        replays = (
+          record {
+            need = need;
+            moves = moves_one a.hart new need (reply a.read a.written) (is_below h (all_harts w) (both_left (has_hart w a.hart) (own_lock w c a.word) fits.serves)) same does;
+            content = value;
+            succeeds = true;
+            is_offered = ap (λ y. offered h y need value true) (sym number) ∙ sym fits.access.made;
+          },
+          ap (λ (y : Access). y.op) made,
+        );
         stands = λ k. subst (λ s. Stands w k s (with_hart old h new k) (after w m g).net) (sym (still cores k)) (serve_stands a.hart new (UnlockAck a.hart value) (cluster_of w h) none (λ j. (ap (λ y. serves y j) is, ap (λ y. answers_now y j) is)) sent (λ e. record { need = need; does = subst (λ y. Does w.image w.top (core_at w m h) need y new) value_is does }) k (k == h) refl);
       }
 

@@ -4,22 +4,21 @@ use Rattle.std.proofs.lemmas.List.{append_assoc}
 use Rattle.dash_event.specs.declared.event.Event.{Event}
 use Rattle.dash_event.specs.declared.event.Kind.{Kind}
 use Rattle.hart_core.specs.Opening.{opening_hart}
-use Rattle.dash_model.specs.Machine.{AreSteps, IsRising, IsRun, Machine, Reaches, Step, after, event_of, opening}
-use Rattle.dash_model.specs.Replay.{Harts, IsReplay, Replays}
-use Rattle.dash_model.specs.Net.{first, rest}
-use Rattle.dash_model.specs.Maps.{weigh}
-use Rattle.dash_model.specs.Log.{IsEventAt}
 use Rattle.dash_model.specs.Config.{Config}
-use Rattle.dash_model.proofs.ReplaySteps.{EachStands, replay_step, stands_here}
-use Rattle.dash_model.proofs.Prefix.{rising_first}
+use Rattle.dash_model.specs.Log.{IsEventAt}
+use Rattle.dash_model.specs.Machine.{AreSteps, IsRising, IsRun, Machine, Reaches, Step, after, event_of, opening}
+use Rattle.dash_model.specs.Maps.{weigh}
+use Rattle.dash_model.specs.Replay.{Harts, IsReplay, Replays}
 use Rattle.dash_model.proofs.InRuns.{reaches_more}
+use Rattle.dash_model.proofs.Prefix.{rising_first}
+use Rattle.dash_model.proofs.ReplaySteps.{EachStands, replay_step, stands_here}
 
--- harts by position that a log is a replay of
+-- harts by position, of which the log is a replay
 pub record Replayed (w : Config) (log : List Event) : Type 0 where
   pub harts : ℕ → Harts
   pub replay : IsReplay w.image w.top log harts
 
--- the same of steps, from these harts
+-- the same of the events of steps, from these harts on
 record Replaying (w : Config) (gs : List Step) (old : Harts) : Type 0 where
   pub harts : ℕ → Harts
   pub starts : harts 0 ≡ old
@@ -55,6 +54,7 @@ opening_stands : (w : Config) → EachStands w (opening w) (λ h. opening_hart w
 unfolding weigh
 opening_stands w h = stands_here w h (opening_hart w.image w.top h) (opening_hart w.image w.top h) [] refl refl
 
+-- every run
 pub replayed : (w : Config) (log : List Event) → IsRun w log → Replayed w log
 replayed w log run =
     let start : Reaches w [] (opening w) = record { run = record { steps = []; events = refl; happen = tt; rising = tt }; state = refl } in

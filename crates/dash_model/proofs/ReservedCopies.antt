@@ -1,33 +1,33 @@
 -- What a step makes of a cluster's copy of a line, where a hart holds it before and after: its version stays, or it was current, and no other hart commits the line.
 use Rattle.std.proofs.Common.{Bool, List, None, Some, [], ap, arith, cond, false, inl, inr, refl, subst, sym, true, ℕ, ◌&&◌, ◌+◌, ◌<◌, ◌==◌, ◌∙◌, ◌∷◌, ◌≡◌, ◌≤◌, ◌⊎◌}
 use Rattle.std.proofs.lemmas.Bool.Decides.{nat_tests}
-use Rattle.dash_event.specs.declared.event.Event.{Event}
-use Rattle.dash_base.specs.declared.id.HartId.{HartId}
-use Rattle.dash_msg.specs.declared.msg.Msg.TheVariants.{FwdRead, FwdReadEx, Inval, Read, ReadEx, SharingBack, Transfer, WriteBack}
-use Rattle.dash_base.specs.declared.line.Line.{Line}
-use Rattle.dash_base.specs.declared.id.LineId.{LineId}
-use Rattle.dash_msg.specs.declared.msg.Msg.{Msg}
 use Rattle.dash_base.specs.declared.id.ClusterId.{ClusterId}
+use Rattle.dash_base.specs.declared.id.HartId.{HartId}
+use Rattle.dash_base.specs.declared.id.LineId.{LineId}
+use Rattle.dash_base.specs.declared.line.Line.{Line}
+use Rattle.dash_msg.specs.declared.msg.Msg.{Msg}
+use Rattle.dash_msg.specs.declared.msg.Msg.TheVariants.{FwdRead, FwdReadEx, Inval, Read, ReadEx, SharingBack, Transfer, WriteBack}
+use Rattle.dash_event.specs.declared.event.Event.{Event}
 use Rattle.dash_model.specs.Acts.{Act, Again, AskOwn, AskRead, BusOwn, BusRead, Commit, Drop, Evict, Install, act_row, again_row, bus_own, bus_read, drop_hart, evict_row, install_row, shrunk}
-use Rattle.dash_model.specs.Log.{Commits}
-use Rattle.dash_model.specs.LineFacts.{IsOnItsWay, IsReading, cell_at, home_at}
-use Rattle.dash_model.specs.LineEffect.{LineEffect, has_owner, still}
 use Rattle.dash_model.specs.Cell.{Acks, Came, Cell, Copy, Dirty, Entry, Held, Home, NoAcks, NoCopy, Owns, Reads, Refused, SharedBy, Slot, Uncached}
-use Rattle.dash_model.specs.Machine.{CanHappen, Machine, Reaches, Step, after}
-use Rattle.dash_model.specs.Requests.{give_own, give_read, is_dirty_of, own_row, read_row, sharing_back_row, transfer_row, write_back_row}
-use Rattle.dash_model.specs.OnLine.{came_own, invals, invals_at, invals_at_msg, on, one}
 use Rattle.dash_model.specs.Config.{Config, cluster_of, first_prefetch, home_of, line_id, lines}
-use Rattle.dash_model.specs.Net.{Packet}
-use Rattle.dash_model.specs.LineRows.{take_row}
-use Rattle.dash_model.specs.Words.{content, held_by}
-use Rattle.dash_model.specs.Maps.{weigh, without}
 use Rattle.dash_model.specs.History.{version_of}
-use Rattle.dash_model.proofs.Facts.{At, Place, holds}
+use Rattle.dash_model.specs.LineEffect.{LineEffect, has_owner, still}
+use Rattle.dash_model.specs.LineFacts.{IsOnItsWay, IsReading, cell_at, home_at}
+use Rattle.dash_model.specs.LineRows.{take_row}
+use Rattle.dash_model.specs.Log.{Commits}
+use Rattle.dash_model.specs.Machine.{CanHappen, Machine, Reaches, Step, after}
+use Rattle.dash_model.specs.Maps.{weigh, without}
+use Rattle.dash_model.specs.Net.{Packet}
+use Rattle.dash_model.specs.OnLine.{came_own, invals, invals_at, invals_at_msg, on, one}
+use Rattle.dash_model.specs.Requests.{give_own, give_read, is_dirty_of, own_row, read_row, sharing_back_row, transfer_row, write_back_row}
+use Rattle.dash_model.specs.Words.{content, held_by}
 use Rattle.dash_model.proofs.CommitPlaces.{commits_in_m, only_holder}
+use Rattle.dash_model.proofs.Facts.{At, Place, holds}
 use Rattle.dash_model.proofs.LineFacts.{inval_weighs, runs_keep_lines}
 use Rattle.dash_model.proofs.LineState.{IsNext, MayAct, State}
-use Rattle.dash_model.proofs.Reached.{each_reached}
 use Rattle.dash_model.proofs.LineViews.{Does_act, LineStep, Rests, Takes_one, line_step}
+use Rattle.dash_model.proofs.Reached.{each_reached}
 use Rattle.dash_model.proofs.Tests.{is_same}
 
 -- the copy of a cluster that acts or takes a message, where it has this before: its version stays, its owner writes, or a line that came is installed

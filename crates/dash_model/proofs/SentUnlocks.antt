@@ -1,53 +1,50 @@
 -- A home frees a lock word only for an Unlock that its hart sent, and since then the hart has done nothing.
-use Rattle.std.proofs.Common.{Bool, List, Some, [], ap, arith, false, length, map, refl, subst, sym, true, ℕ, ◌++◌, ◌+◌, ◌<◌, ◌==◌, ◌∙◌, ◌∷◌, ◌≡◌, ◌≢◌}
-use Rattle.dash_event.specs.declared.event.Event.{Event}
-use Rattle.hart_core.specs.HartState.{HartState}
+use Rattle.std.proofs.Common.{Bool, List, Some, [], ap, arith, false, length, map, refl, subst, sym, true, ℕ, ◌++◌, ◌<◌, ◌==◌, ◌∙◌, ◌∷◌, ◌≡◌, ◌≢◌}
+use Rattle.dash_base.specs.declared.id.ClusterId.{ClusterId}
+use Rattle.dash_base.specs.declared.id.HartId.{HartId}
+use Rattle.dash_base.specs.declared.id.WordAddr.{WordAddr}
+use Rattle.dash_base.specs.declared.need.Need.{Need}
+use Rattle.dash_base.specs.declared.need.Need.TheVariants as needed
+use Rattle.dash_msg.specs.declared.classes.Class.TheVariants.{Request}
+use Rattle.dash_msg.specs.declared.msg.Msg.{Msg}
+use Rattle.dash_msg.specs.declared.msg.Msg.TheVariants.{Unlock}
+use Rattle.dash_msg.specs.declared.parcel.Sent.{Sent}
 use Rattle.dash_event.specs.Effects.{hart_of}
 use Rattle.dash_event.specs.Records.{records_in, unseen}
-use Rattle.dash_event.specs.declared.step_record.StepRecord.{StepRecord}
-use Rattle.dash_base.specs.declared.need.Need.{Need}
-use Rattle.hart_core.specs.Meaning.{Does}
-use Rattle.dash_base.specs.declared.id.HartId.{HartId}
-use Rattle.dash_msg.specs.declared.parcel.Sent.{Sent}
-use Rattle.dash_base.specs.declared.id.ClusterId.{ClusterId}
 use Rattle.dash_event.specs.declared.access.Access.{Access}
-use Rattle.dash_msg.specs.declared.msg.Msg.{Msg}
-use Rattle.dash_base.specs.declared.id.WordAddr.{WordAddr}
-use Rattle.dash_msg.specs.declared.msg.Msg.TheVariants.{Unlock}
+use Rattle.dash_event.specs.declared.event.Event.{Event}
 use Rattle.dash_event.specs.declared.event.Kind.{Kind}
-use Rattle.dash_msg.specs.declared.classes.Class.TheVariants.{Request}
-use Rattle.dash_model.specs.Config.{Config, cluster_of, lock_at, lock_home}
-use Rattle.dash_model.specs.Machine.{AtHead, CanHappen, IsRun, Machine, Reaches, Step, after, event_of, less, taken}
-use Rattle.dash_model.specs.HartRows.{PartEffect}
-use Rattle.dash_model.specs.Net.{Packet, parcel}
-use Rattle.dash_model.specs.OnLine.{is_of, one}
-use Rattle.dash_model.specs.LockFacts.{is_waiter, of_hart, of_hart_msg, queue_of}
+use Rattle.dash_event.specs.declared.event.Kind.TheVariants as kind
+use Rattle.dash_event.specs.declared.step_record.StepRecord.{StepRecord}
+use Rattle.dash_event.specs.declared.step_record.StepRecord.TheVariants as step
+use Rattle.hart_core.specs.HartState.{HartState}
+use Rattle.hart_core.specs.Meaning.{Does}
 use Rattle.dash_model.specs.Admissible.{IsSentBefore}
+use Rattle.dash_model.specs.Config.{Config}
 use Rattle.dash_model.specs.Guard.{GrantFits}
 use Rattle.dash_model.specs.HartGuards.{LockSends, number_of}
-use Rattle.dash_model.specs.Part.{Part}
+use Rattle.dash_model.specs.HartRows.{PartEffect}
+use Rattle.dash_model.specs.LockFacts.{of_hart, of_hart_msg}
 use Rattle.dash_model.specs.Log.{IsEventAt, IsRecordEvent}
+use Rattle.dash_model.specs.Machine.{AtHead, CanHappen, IsRun, Machine, Reaches, Step, after, event_of, less, taken}
 use Rattle.dash_model.specs.Maps.{weigh}
+use Rattle.dash_model.specs.Net.{Packet, parcel}
+use Rattle.dash_model.specs.OnLine.{is_of, one}
+use Rattle.dash_model.specs.Part.{Part}
 use Rattle.dash_model.specs.Row.{row}
-use Rattle.dash_model.proofs.Tests.{at_most_one, is_same, not_same, one_same, same}
-use Rattle.dash_model.proofs.LogPlaces.{AtEnd, EventPlaced, InFront, event_at_last, event_front, event_of_front, event_placed, length_more}
-use Rattle.dash_model.proofs.HartTurns.{DoesOne, Turn, only_record, turn}
-use Rattle.dash_model.proofs.LockViews.{Drops, Freed, Frees, Granted, Grants, LockView, Plain, Sends, Waits, grants_to, lock_view}
-use Rattle.dash_model.proofs.HartTurns.{Works, Rests, Sends as SendsOne, Grants as GrantsOne, Frees as FreesOne, Gets}
-use Rattle.dash_event.specs.declared.step_record.StepRecord.TheVariants as step
-use Rattle.dash_model.proofs.LockInstructions.{AskOf, IsNextOf, core_at, each_asks, not_next}
-use Rattle.dash_model.proofs.InRuns.{in_runs}
-use Rattle.dash_model.proofs.Totals.{term_le}
-use Rattle.dash_model.proofs.Each.{Each, EachSent, each_member, less_each, send_each}
-use Rattle.dash_model.proofs.LockBalance.{lock_below, lock_there, weigh_first}
-use Rattle.dash_model.proofs.Happened.{Happened, happened}
-use Rattle.dash_model.proofs.Weigh.{cut}
-use Rattle.dash_model.proofs.LockFacts.{cases_apply, one_each}
-use Rattle.dash_model.proofs.LockCases.{on_its_way}
 use Rattle.dash_model.proofs.Along.{AllAre}
+use Rattle.dash_model.proofs.Each.{Each, EachSent, each_member, less_each, send_each}
+use Rattle.dash_model.proofs.Happened.{Happened, happened}
+use Rattle.dash_model.proofs.InRuns.{in_runs}
+use Rattle.dash_model.proofs.LockCases.{on_its_way}
+use Rattle.dash_model.proofs.LockFacts.{cases_apply}
+use Rattle.dash_model.proofs.LockInstructions.{AskOf, IsNextOf, core_at, each_asks, not_next}
+use Rattle.dash_model.proofs.LockViews.{Drops, Freed, Frees, Granted, Grants, LockView, Plain, Sends, Waits, lock_view}
+use Rattle.dash_model.proofs.LogPlaces.{AtEnd, EventPlaced, InFront, event_at_last, event_front, event_of_front, event_placed, length_more, none_after}
+use Rattle.dash_model.proofs.ServedInstructions.{is_freed, is_granted}
 use Rattle.dash_model.proofs.Serving.{serves}
-use Rattle.dash_base.specs.declared.need.Need.TheVariants as needed
-use Rattle.dash_event.specs.declared.event.Kind.TheVariants as kind
+use Rattle.dash_model.proofs.Tests.{is_same, not_same, one_same}
+use Rattle.dash_model.proofs.HartTurns.{DoesOne, Turn, only_record, turn, Works, Rests, Sends as SendsOne, Grants as GrantsOne, Frees as FreesOne, Gets}
 
 -- the log has no record of hart h in this event
 abbrev pub NoRecord : Kind → ℕ → Type 0
@@ -60,7 +57,7 @@ pub record IsSentIn (log : List Event) (t : HartId) (n : ℕ) (word : WordAddr) 
   pub before : at < length log
   pub quiet : (j : ℕ) (r : StepRecord) → IsRecordEvent log j r → hart_of r ≡ t → at < j → ⊥
 
--- of hart h
+-- what holds of an Unlock of hart h
 abbrev pub SentOf : List Event → ℕ → Msg → Type 0
 SentOf log h (Unlock t n word) = t.0 ≡ h → IsSentIn log t n word
 SentOf log h m = Unit {0}
@@ -84,17 +81,13 @@ module _ (log : List Event) (e : Event) where
     quiet = λ j r x mine l. still_quiet t s.at s.before s.quiet none j r x.kind x.is mine l (event_placed log e j x.kind x.at);
   }
 
-  none_after : (j : ℕ) (k : Kind) → length log < j → EventPlaced log e j k → ⊥
-  none_after j k l (InFront low at) = omega arith
-  none_after j k l (AtEnd last is) = omega arith
-
   -- the event sends it
   sent_now : (t : HartId) (n : ℕ) (word : WordAddr) → e.kind ≡ kind.LockSend t (Unlock t n word) → IsSentIn (log ++ e ∷ []) t n word
   sent_now t n word is = record {
     at = length log;
     is_at = event_at_last log e ∙ ap Some is;
     before = (let more = length_more log e in omega arith);
-    quiet = λ j r x mine l. none_after j x.kind l (event_placed log e j x.kind x.at);
+    quiet = λ j r x mine l. none_after log e j x.kind l (event_placed log e j x.kind x.at);
   }
 
   carried : (h : ℕ) (m : Msg) → NoRecord e.kind h → SentOf log h m → SentOf (log ++ e ∷ []) h m
@@ -175,30 +168,14 @@ module _ (w : Config) (log : List Event) (m : Machine) (g : Step) (r : Reaches w
   does_silent e q rest false o is k = Unrecorded (record_of e o.hart o.recorded (not_same h o.hart.0 is))
 
   grant_silent : (a : Access) (rest : List Packet) (b : Bool) → (h == a.hart.0) ≡ b → GrantFits w g.event.cluster.0 a (m.parts g.event.cluster.0) → (weigh (of_hart h) m.net ≡ 0 → Each (λ c x. OtherThan h x) rest) → Silent (kind.Grant a) h rest
-  grant_silent a rest true is fits none =
-      let c = g.event.cluster.0 in
-      let i = lock_at w a.word.0 in
-      let x = fits.waiter in
-      let mine : h ≡ x.hart = is_same h a.hart.0 is ∙ grants_to x.hart x.number x.value 0 a.word a fits.access.made in
-      let low = lock_below w c a.word fits.mine in
-      let home = is_same (lock_home w i) c (lock_there w c a.word fits.mine) in
-      let queue : queue_of w m i ≡ x ∷ fits.others = ap (λ y. ((m.parts y).locks i).queue) home ∙ fits.queue in
-      let place : weigh (is_waiter h) (queue_of w m i) ≡ is_waiter h x + weigh (is_waiter h) fits.others = ap (weigh (is_waiter h)) queue ∙ weigh_first h fits.others x in
-      let there : is_waiter h x ≡ 1 = ap (λ y. one y h) (sym mine) ∙ one_same h in
-      let all = term_le (λ j. weigh (is_waiter h) (queue_of w m j)) i w.top.locks low in
-      let whole = one_each w log m r h in
-      let most = at_most_one ((m.parts (cluster_of w h)).harts h).asked in
-      Unsent (none (omega arith))
+  grant_silent a rest true is fits none = Unsent (none (subst (λ y. weigh (of_hart y) m.net ≡ 0) (sym (is_same h a.hart.0 is)) (is_granted w log m g.event.cluster.0 a r fits).alone))
   grant_silent a rest false is fits none = Unrecorded (record_of (kind.Grant a) a.hart (only_record (kind.Grant a) (step.Access (unseen a)) a.hart refl refl) (not_same h a.hart.0 is))
 
   free_silent : (f : ClusterId) (a : Access) (b : Bool) → (h == a.hart.0) ≡ b → AtHead (taken g.event.cluster.0 g.stamp (kind.Free f a)) m.net → Silent (kind.Free f a) h (less (taken g.event.cluster.0 g.stamp (kind.Free f a)) m.net)
   free_silent f a true is first =
       let c = g.event.cluster.0 in
-      let cut_one = cut f.0 c Request (parcel f.0 c (Unlock a.hart a.number a.word) g.stamp) m.net first (of_hart h) in
-      let here : one a.hart.0 h ≡ 1 = ap (one a.hart.0) (is_same h a.hart.0 is) ∙ one_same a.hart.0 in
-      let whole = one_each w log m r h in
-      let most = at_most_one ((m.parts (cluster_of w h)).harts h).asked in
-      Unsent (none_others h (less (taken c g.stamp (kind.Free f a)) m.net) (omega arith))
+      let rest = less (taken c g.stamp (kind.Free f a)) m.net in
+      Unsent (none_others h rest (subst (λ y. weigh (of_hart y) rest ≡ 0) (sym (is_same h a.hart.0 is)) (is_freed w log m c g.stamp f a r first).alone))
   free_silent f a false is first = Unrecorded (record_of (kind.Free f a) a.hart (only_record (kind.Free f a) (step.Access (unseen a)) a.hart refl refl) (not_same h a.hart.0 is))
 
   unrecorded : (e : Kind) → records_in e ≡ [] → NoRecord e h
