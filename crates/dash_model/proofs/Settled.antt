@@ -10,7 +10,7 @@ use Rattle.dash_model.proofs.PendingFacts.{holds_most}
 use Rattle.dash_model.proofs.Steps.{Invariant}
 use Rattle.dash_model.proofs.Tests.{one_same}
 use Rattle.dash_model.proofs.Weigh.{weigh-only}
-use Rattle.dash_model.specs.Cell.{Asked, Came, Copy, Held, NoAcks, NoCopy, Reads, Slot}
+use Rattle.dash_model.specs.Cell.{Asked, Came, Copy, Held, NoAcks, NoCopy, Reads, Slot, Cell}
 use Rattle.dash_model.specs.Maps.{weigh}
 use Rattle.dash_model.specs.Net.{Packet}
 use Rattle.dash_model.specs.OnLine.{invals, invals_msg, invals_at, invals_at_msg, came_own, owned, counts_to, one}
@@ -68,7 +68,11 @@ fresh_reads b v s p x z none k = elim k.fresh [ inl some ↦ absurd (omega arith
 at_one : (p : Place) (c r : ℕ) → holds p c ≡ 1 → p ≡ At r → r ≡ c
 at_one p c r here is = let e : one r c ≡ 1 = ap (λ q. holds q c) (sym is) ∙ here in grind (arith, nat_tests)
 
-pub settled : (h : ℕ) (v : Line) (s : State) (inv : Invariant h v s) (c : ℕ) → 1 ≤ owned (s.cells c).copy + came_own (s.cells c).slot → (s.cells c).acks ≡ NoAcks → (b : Line → ℕ) → b v ≡ 0 → (x : ℕ) → NoneToRead b s x
+-- how many tokens a cluster has
+abbrev pub tokens : Cell → ℕ
+tokens a = owned a.copy + came_own a.slot
+
+pub settled : (h : ℕ) (v : Line) (s : State) (inv : Invariant h v s) (c : ℕ) → 1 ≤ tokens (s.cells c) → (s.cells c).acks ≡ NoAcks → (b : Line → ℕ) → b v ≡ 0 → (x : ℕ) → NoneToRead b s x
 settled h v s inv c has clear b z x =
     let p = inv.place in
     let k = (inv.known c).facts in
