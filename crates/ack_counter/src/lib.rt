@@ -9,5 +9,3 @@ pub use table::AckTable;
 mod entries;
 pub mod laws;
 mod table;
-#[cfg(test)]
-mod tests;

@@ -12,5 +12,3 @@ mod arbitration;
 mod chooser;
 mod rotate;
 mod script;
-#[cfg(test)]
-mod tests;

@@ -8,5 +8,3 @@ pub use array::Array;
 
 mod array;
 mod places;
-#[cfg(test)]
-mod tests;

@@ -7,5 +7,3 @@ pub use levels::Levels;
 
 mod levels;
 mod replace;
-#[cfg(test)]
-mod tests;

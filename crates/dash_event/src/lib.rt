@@ -13,5 +13,3 @@ mod access;
 mod event;
 mod logged;
 mod step_record;
-#[cfg(test)]
-mod tests;

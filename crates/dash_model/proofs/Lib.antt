@@ -44,6 +44,8 @@ pub mod CommitsFollow
 pub mod OwnStores
 pub mod DrainedHarts
 pub mod LockChain
+pub mod RunsCoherent
+pub mod RunsRelease
 pub mod VersionedContents
 pub mod ShownVersions
 pub mod Floors
@@ -70,6 +72,8 @@ pub mod LockViews
 pub mod LockRange
 pub mod InRange
 pub mod Totals
+pub mod Weights
+pub mod Falls
 pub mod HartSteps
 pub mod LineCases
 pub mod LockCases
@@ -79,6 +83,14 @@ pub mod Retired
 pub mod Asking
 pub mod Serving
 pub mod LockCounts
+pub mod HartTurns
+pub mod LockInstructions
+pub mod ReplaySteps
+pub mod ReplayedHarts
+pub mod SentUnlocks
+pub mod KeptReservations
+pub mod CommitPlaces
+pub mod ReservedCopies
 pub mod Targets
 pub mod TableCode
 pub mod TableCells

@@ -214,7 +214,7 @@ covered w l m p c k (inr (inl z)) t = absurd (let s = some_thing w l m c t in om
 covered w l m p c k (inr (inr s)) t = covered_by w l m c (some_of (marked c (along w l m).home.entry) (weigh (shares c) (on l m.net)) (weigh (invals_at c) (on l m.net)) s)
 
 -- one epoch
-inval_weighs : (net : List Packet) (q : Packet) (k : LineId) (r : ClusterId) → IsOnItsWay q net → q.msg ≡ Inval k r → 1 ≤ weigh (invals r.0) net
+pub inval_weighs : (net : List Packet) (q : Packet) (k : LineId) (r : ClusterId) → IsOnItsWay q net → q.msg ≡ Inval k r → 1 ≤ weigh (invals r.0) net
 inval_weighs net q k r at e =
     let some = weigh_at (invals r.0) net q at in
     let same : invals r.0 q ≡ one r.0 r.0 = ap (λ m. invals_msg r.0 q.src q.dst m) e in

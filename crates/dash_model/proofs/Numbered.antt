@@ -54,7 +54,7 @@ line_below w address l i e =
     let below = i.below in
     omega arith
 
-first_line : (w : Config) → 0 < lines w
+pub first_line : (w : Config) → 0 < lines w
 first_line w = let some = w.top.memory_in_range in omega arith
 
 pub commit_line : (w : Config) (log : List Event) (m : Machine) (c : ℕ) (h : HartId) (n v : ℕ) (k : LineId) → Reaches w log m → CommitFits w c h.0 n k.0 v (m.parts c) → k.0 < lines w
@@ -64,7 +64,7 @@ commit_line w log m c h n v k r g =
     line_below w first.access.word.0 k.0 first.writes.inside (ap (λ z. line_at w z.word.0) first.entry ∙ g.line)
 
 -- the version that a hart in state M writes over
-current_version : (w : Config) (log : List Event) (m : Machine) (c h l : ℕ) → l < lines w → Reaches w log m → in_m h ((m.parts c).cells l).copy ≡ true
+pub current_version : (w : Config) (log : List Event) (m : Machine) (c h l : ℕ) → l < lines w → Reaches w log m → in_m h ((m.parts c).cells l).copy ≡ true
     → (content ((m.parts c).cells l).copy).version ≡ version_of log l
 current_version w log m c h l i r owner = owner_version ((m.parts c).cells l).copy h (version_of log l) owner (λ hs o d is. ((runs_keep_lines w log m l i r).token.owner c hs o d is).version)
 

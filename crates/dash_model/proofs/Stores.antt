@@ -66,7 +66,7 @@ all_added : (w : Config) (log : List Event) (h : ℕ) (ss : List Stored) (s : St
 all_added w log h [] s k one = (one, tt)
 all_added w log h (x ∷ xs) s k one = (k.0, all_added w log h xs s k.1 one)
 
-stores_more : (log : List Event) (e : Event) (h n : ℕ) → stores_in (log ++ e ∷ []) h n ≡ stores_in log h n ++ store_in (hart_id h) n e.kind
+pub stores_more : (log : List Event) (e : Event) (h n : ℕ) → stores_in (log ++ e ∷ []) h n ≡ stores_in log h n ++ store_in (hart_id h) n e.kind
 stores_more log e h n = flat_map-append (λ e. store_in (hart_id h) n e.kind) log (e ∷ []) ∙ ap (λ xs. stores_in log h n ++ xs) (append-nil (store_in (hart_id h) n e.kind))
 
 -- a store writes a word of memory

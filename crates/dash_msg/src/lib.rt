@@ -12,5 +12,3 @@ mod classes;
 mod classify;
 mod msg;
 mod parcel;
-#[cfg(test)]
-mod tests;

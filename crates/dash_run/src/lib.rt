@@ -15,6 +15,4 @@ mod lines;
 mod output;
 mod report;
 mod rotation;
-#[cfg(test)]
-mod tests;
 mod top;

@@ -16,5 +16,3 @@ mod home_line;
 pub mod laws;
 mod opening;
 mod rows;
-#[cfg(test)]
-mod tests;

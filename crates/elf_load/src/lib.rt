@@ -22,5 +22,3 @@ mod refusal;
 mod segment_checks;
 mod segment_table;
 mod segments;
-#[cfg(test)]
-mod tests;

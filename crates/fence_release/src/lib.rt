@@ -7,5 +7,3 @@
 pub use release::{may_commit, may_fence};
 
 mod release;
-#[cfg(test)]
-mod tests;

@@ -17,5 +17,3 @@ pub mod laws;
 mod machine;
 mod offer;
 mod opening;
-#[cfg(test)]
-mod tests;

@@ -14,6 +14,4 @@ mod access;
 mod found;
 mod hart;
 pub mod laws;
-#[cfg(test)]
-mod tests;
 mod width;

@@ -14,5 +14,3 @@ mod ends;
 mod inlet;
 mod meeting;
 mod outlet;
-#[cfg(test)]
-mod tests;

@@ -6,5 +6,3 @@
 pub use retry::{next_refused, refused, reissue};
 
 mod retry;
-#[cfg(test)]
-mod tests;

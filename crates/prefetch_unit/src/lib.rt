@@ -6,5 +6,3 @@
 pub use choice::choose;
 
 mod choice;
-#[cfg(test)]
-mod tests;

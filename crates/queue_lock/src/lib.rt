@@ -10,7 +10,5 @@ pub use waiter::Waiter;
 pub mod laws;
 mod locks;
 mod opening;
-#[cfg(test)]
-mod tests;
 mod waiter;
 mod word;

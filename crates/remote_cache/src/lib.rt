@@ -11,5 +11,3 @@ pub mod laws;
 mod search;
 mod slot;
 mod slots;
-#[cfg(test)]
-mod tests;

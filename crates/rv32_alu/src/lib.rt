@@ -71,6 +71,3 @@ pub fn amo_value(op: AmoOp, old: u32, operand: u32) -> u32
         _ => unreachable!(),
     }
 }
-
-#[cfg(test)]
-mod tests;

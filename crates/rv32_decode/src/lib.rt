@@ -49,6 +49,3 @@ fn row(word: u32) -> Option<Instr>
         _ => None,
     }
 }
-
-#[cfg(test)]
-mod tests;

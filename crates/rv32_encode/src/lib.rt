@@ -39,8 +39,3 @@ pub fn encode(instr: &Instr) -> u32
         Instr::Ebreak => 0x0010_0073,
     }
 }
-
-#[cfg(test)]
-mod elf_tests;
-#[cfg(test)]
-mod tests;

@@ -223,6 +223,3 @@ fn push_number(text: &mut ArrayString<48>, number: i32)
 {
     text.push_str(Buffer::new().format(number));
 }
-
-#[cfg(test)]
-mod tests;

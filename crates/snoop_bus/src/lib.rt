@@ -9,5 +9,3 @@ pub use bus::Bus;
 mod bus;
 mod hart_caches;
 mod harts;
-#[cfg(test)]
-mod tests;

@@ -6,5 +6,3 @@ pub use log::{accesses, console};
 
 pub mod laws;
 mod log;
-#[cfg(test)]
-mod tests;

@@ -9,5 +9,3 @@ pub use entry::{Entry, Look};
 mod buffer;
 mod entry;
 mod search;
-#[cfg(test)]
-mod tests;

@@ -1,6 +1,0 @@
-use Rattle.std.proofs.Common.{◌<◌, All}
-use Rattle.flat_model.proofs.tests.drive.Given as goal
-
--- only two harts are listed
-abbrev pub invariant-turns : goal.invariant-turns
-invariant-turns l = All (λ h. h.0 < 2) l.harts.items

@@ -1,0 +1,9 @@
+//! Tests of logs and reports. A crate with tests is proved again with them, so they stand here, above all that they test.
+#![tactic(auto)]
+
+#[cfg(test)]
+mod logs;
+#[cfg(test)]
+mod reports;
+#[cfg(test)]
+mod shown;
