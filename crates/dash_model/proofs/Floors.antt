@@ -21,7 +21,6 @@ use Rattle.dash_model.proofs.LineState.{State}
 use Rattle.dash_model.proofs.LineSteps.{take_step, act_step}
 use Rattle.dash_model.proofs.LineViews.{LineStep, Rests, Does_act, Takes_one, line_step}
 use Rattle.dash_model.proofs.Reached.{each_reached, version_first}
-use Rattle.dash_model.proofs.Ready.{later}
 use Rattle.dash_model.proofs.ShownVersions.{ShownAt, shown_at, shown_low}
 use Rattle.dash_model.proofs.Steps.{Invariant}
 use Rattle.dash_model.specs.Cell.{Held, NoSlot, Owns, Reads, Slot}

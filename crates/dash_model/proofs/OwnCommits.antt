@@ -21,7 +21,6 @@ use Rattle.dash_model.specs.Cell.{Cell, Copy, Held, NoCopy}
 use Rattle.dash_model.specs.Config.{Config, cluster_of, home_of, line_at}
 use Rattle.dash_model.specs.Guard.{Guard}
 use Rattle.dash_model.specs.HartRows.{HartEffect, commit_row}
-use Rattle.dash_model.specs.History.{version_of}
 use Rattle.dash_model.specs.LineFacts.{cell_at}
 use Rattle.dash_model.specs.Log.{Commits, IsCommitEvent, IsEventAt, IsShown}
 use Rattle.dash_model.specs.Machine.{IsRun, Machine, Step, after, part_after}
@@ -55,16 +54,20 @@ guard_makes w c v (kind.Rmw a l u) d p hart line g is =
     subst (λ z. Made w c z.0 line.0 v (p.cells line.0) ((row w c (kind.Rmw a l u) d p).part.cells line.0)) is.0 (subst (λ z. Made w c a.hart.0 z.0 v (p.cells z.0) ((row w c (kind.Rmw a l u) d p).part.cells z.0)) is.1 (made_by w c a.hart.0 l.0 v a.word.0 a.mask (unwrap_or a.written 0) p g.next.mine g.owner (sym is.2 ∙ g.version_is) ((row w c (kind.Rmw a l u) d p).part.cells l.0) refl))
 guard_makes w c v _ d p hart line g is = absurd is
 
--- where the event of a position commits a version
-pub record MadeAt (w : Config) (log : List Event) (i : ℕ) (k : Kind) (hart : HartId) (l v : ℕ) : Type 0 where
-  pub at : Happened w log i k
-  pub made : Made w at.step.event.cluster.0 hart.0 l v (cell_at l at.state at.step.event.cluster.0) (cell_at l (after w at.state at.step) at.step.event.cluster.0)
+-- a step commits it
+abbrev pub MadeBy : Config → Machine → Step → ℕ → ℕ → ℕ → Type 0
+MadeBy w m g h l v = Made w g.event.cluster.0 h l v (cell_at l m g.event.cluster.0) (cell_at l (after w m g) g.event.cluster.0)
 
--- the part of a step's cluster after it
+-- the event of a position does
+pub record MadeAt (w : Config) (log : List Event) (i : ℕ) (k : Kind) (h l v : ℕ) : Type 0 where
+  pub at : Happened w log i k
+  pub made : MadeBy w at.state at.step h l v
+
+-- the cell of a step's cluster after it
 pub its_cell : (w : Config) (m : Machine) (g : Step) (l : ℕ) → cell_at l (after w m g) g.event.cluster.0 ≡ (row w g.event.cluster.0 g.event.kind g.done (m.parts g.event.cluster.0)).part.cells l
 its_cell w m g l = ap (λ b. (cond b (part_after w g.event.cluster.0 g (m.parts g.event.cluster.0)) (m.parts g.event.cluster.0)).cells l) (same g.event.cluster.0)
 
-pub made_at : (w : Config) (log : List Event) (i : ℕ) (k : Kind) (hart : HartId) (line : LineId) (v : ℕ) → IsRun w log → IsEventAt log i k → Commits k hart line v → MadeAt w log i k hart line.0 v
+pub made_at : (w : Config) (log : List Event) (i : ℕ) (k : Kind) (hart : HartId) (line : LineId) (v : ℕ) → IsRun w log → IsEventAt log i k → Commits k hart line v → MadeAt w log i k hart.0 line.0 v
 made_at w log i k hart line v run there is =
     let h = happened w log i k run there in
     let c = h.step.event.cluster.0 in
@@ -81,35 +84,34 @@ still_owns h d (Held [] o e) is = absurd (cc)
 still_owns h d (Held (x ∷ y ∷ ys) o e) is = absurd (cc)
 still_owns h d NoCopy is = absurd (cc)
 
-pub owns_after : (w : Config) (c h l v : ℕ) (a b : Cell) (k : Made w c h l v a b) → b.copy ≡ Held (h ∷ []) (Some h) k.content
-owns_after w c h l v a b k = ap (λ (z : Cell). z.copy) k.cell ∙ still_owns h k.content a.copy k.owner
+-- after a step that commits
+module _ (w : Config) (log : List Event) (m : Machine) (g : Step) (l h v : ℕ) (now : IsAt w (log ++ g.event ∷ []) l (after w m g)) (k : MadeBy w m g h l v) where
+  pub owns_after : (cell_at l (after w m g) g.event.cluster.0).copy ≡ Held (h ∷ []) (Some h) k.content
+  owns_after = ap (λ (z : Cell). z.copy) k.cell ∙ still_owns h k.content (cell_at l m g.event.cluster.0).copy k.owner
 
--- the version is that of the current content afterwards
-pub made_version : (w : Config) (log : List Event) (m : Machine) (g : Step) (l h v : ℕ) (now : IsAt w (log ++ g.event ∷ []) l (after w m g)) → Made w g.event.cluster.0 h l v (cell_at l m g.event.cluster.0) (cell_at l (after w m g) g.event.cluster.0) → v ≡ version_of (log ++ g.event ∷ []) l
-made_version w log m g l h v now k =
-    let c = g.event.cluster.0 in
-    let b = cell_at l (after w m g) c in
-    let same_content : k.content ≡ now.content = owner_current (h ∷ []) h k.content b.copy now.content (came_off b.slot now.content) (owns_after w c h l v (cell_at l m c) b k) (now.holds.invariant.known c).contents.owner in
-    sym k.version ∙ ap (λ (d : Line). d.version) same_content ∙ now.told.version
+  -- the version is that of the current content
+  pub made_version : v ≡ now.content.version
+  made_version =
+      let b = cell_at l (after w m g) g.event.cluster.0 in
+      let current : k.content ≡ now.content = owner_current (h ∷ []) h k.content b.copy now.content (came_off b.slot now.content) owns_after (now.holds.invariant.known g.event.cluster.0).contents.owner in
+      sym k.version ∙ ap (λ (d : Line). d.version) current
 
--- it is a floor at its cluster
-made_floor : (w : Config) (log : List Event) (m : Machine) (g : Step) (l h v : ℕ) → IsAt w (log ++ g.event ∷ []) l (after w m g) → Made w g.event.cluster.0 h l v (cell_at l m g.event.cluster.0) (cell_at l (after w m g) g.event.cluster.0) → Floor w l v g.event.cluster.0 (log ++ g.event ∷ []) (after w m g)
-made_floor w log m g l h v now k =
-    let c = g.event.cluster.0 in
-    let version = made_version w log m g l h v now k in
-    let is = k.version in
-    record { made = omega arith; none = reads_copy (under v) (home_of w l) c (along w l (after w m g)) now.holds.invariant.place (h ∷ []) (Some h) k.content (now.holds.invariant.known c).facts (owns_after w c h l v (cell_at l m c) (cell_at l (after w m g) c) k) (not_under v k.content (omega arith)) }
+  -- and a floor at its cluster
+  made_floor : Floor w l v g.event.cluster.0 (log ++ g.event ∷ []) (after w m g)
+  made_floor =
+      let c = g.event.cluster.0 in
+      let version = made_version in
+      let is = k.version in
+      let told = now.told.version in
+      record { made = omega arith; none = reads_copy (under v) (home_of w l) c (along w l (after w m g)) now.holds.invariant.place (h ∷ []) (Some h) k.content (now.holds.invariant.known c).facts owns_after (not_under v k.content (omega arith)) }
 
 pub own_commits_are_seen : (w : Config) (log : List Event) → IsRun w log → (i j : ℕ) (a : Access) (line : LineId) (u v : ℕ) → i < j → IsCommitEvent log i a.hart line u → IsShown log j a v → line_of w.top a.word ≡ line → u ≤ v
-own_commits_are_seen w log run i j a line u v low commit shown is =
-    let s = made_at w log i commit.kind a.hart line u run commit.at commit.is in
+own_commits_are_seen w log run i j a line u v later commit shown is =
+    let s = made_at w log i commit.kind a.hart (line_of w.top a.word) u run commit.at (subst (λ k. Commits commit.kind a.hart k u) (sym is) commit.is) in
     let t = shown_at w log j a v run shown in
     let c = s.at.step.event.cluster.0 in
     let l = line_at w a.word.0 in
-    let here : line.0 ≡ l = sym (ap (λ (z : LineId). z.0) is) in
-    let made = subst (λ y. Made w c a.hart.0 y u (cell_at y s.at.state c) (cell_at y (after w s.at.state s.at.step) c)) here s.made in
-    let below = shown_low w t.at.step.event.cluster.0 v a (t.at.state.parts t.at.step.event.cluster.0) t.shows in
-    let now = next_reached w s.at.before s.at.state s.at.step l below s.at.reached s.at.can in
-    let floor = lasts w (Floor w l u c) (floor_keeps w l u c below) log i j commit.kind t.kind run s.at t.at low (made_floor w s.at.before s.at.state s.at.step l a.hart.0 u now made) in
-    let there : c ≡ t.at.step.event.cluster.0 = sym s.made.mine ∙ t.shows.mine in
-    shown_above w log j u a v t (subst (λ y. Floor w l u y t.at.before t.at.state) there floor)
+    let low = shown_low w t.at.step.event.cluster.0 v a (t.at.state.parts t.at.step.event.cluster.0) t.shows in
+    let now = next_reached w s.at.before s.at.state s.at.step l low s.at.reached s.at.can in
+    let floor = lasts w (Floor w l u c) (floor_keeps w l u c low) log i j commit.kind t.kind run s.at t.at later (made_floor w s.at.before s.at.state s.at.step l a.hart.0 u now s.made) in
+    shown_above w log j u a v t (subst (λ y. Floor w l u y t.at.before t.at.state) (sym s.made.mine ∙ t.shows.mine) floor)

@@ -21,8 +21,8 @@ use Rattle.dash_model.proofs.Weigh.{cut, sends, weigh-only}
 use Rattle.dash_model.proofs.Bursts.{bursts, vbursts, invals_at-burst}
 use Rattle.dash_model.proofs.Members.{member-with, member-still, member_self}
 use Rattle.dash_model.proofs.Steps.{Keeps, KeepsBy, KeepsByTwo}
-use Rattle.dash_model.proofs.Contents.{old_datas_only, datas_weight_only, home_weighs, owner_current}
-use Rattle.dash_model.proofs.Facts.{Place, AtHome, At, Back, Moving, Facts, Cover, came_off, old_datas, datas_weight, NoneToRead}
+use Rattle.dash_model.proofs.Contents.{datas_weight_only, home_weighs, owner_current}
+use Rattle.dash_model.proofs.Facts.{Place, AtHome, At, Back, Moving, Facts, Cover, came_off, datas_weight, NoneToRead, other}
 
 brings_counts_msg : (x a b : ℕ) (m : Msg) → brings_msg x a b m ≡ 0 → counts_to_msg x a b m ≡ 0
 brings_counts_msg x a b (DataEx l d n) e = grind (arith, nat_tests)
@@ -76,7 +76,7 @@ module _ (w : Where) (m : Line) (s : State) (p : Place) (i c : ℕ) where
   ask_read n t may = record {
     facts = λ x k kc. grind (arith, nat_tests, sends);
     covered = λ x k kc y. grind (arith, nat_tests, sends);
-    contents = λ x k kc v vc. let none = weigh-only (datas c) (old_datas m c) (old_datas_only m c) s.net in grind (arith, nat_tests, sends);
+    contents = λ x k kc v vc. let none = weigh-only (datas c) (datas_weight (other m) c) (datas_weight_only (other m) c) s.net in grind (arith, nat_tests, sends);
     reading = λ b z x k kc vc y. let none = weigh-only (datas c) (datas_weight b c) (datas_weight_only b c) s.net in grind (arith, nat_tests, sends);
   }
 
@@ -92,7 +92,7 @@ module _ (w : Where) (m : Line) (s : State) (p : Place) (i c : ℕ) where
   again = record {
     facts = λ x k kc. again_by w s p i c x (s.cells c).slot refl k kc;
     covered = λ x k kc y. grind (arith, nat_tests, sends);
-    contents = λ x k kc v vc. let none = weigh-only (datas c) (old_datas m c) (old_datas_only m c) s.net in grind (arith, nat_tests, sends);
+    contents = λ x k kc v vc. let none = weigh-only (datas c) (datas_weight (other m) c) (datas_weight_only (other m) c) s.net in grind (arith, nat_tests, sends);
     reading = λ b z x k kc vc y. let none = weigh-only (datas c) (datas_weight b c) (datas_weight_only b c) s.net in grind (arith, nat_tests, sends);
   }
 

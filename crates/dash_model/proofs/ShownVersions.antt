@@ -16,6 +16,7 @@ use Rattle.dash_event.specs.declared.access.Seen.TheVariants as seen
 use Rattle.dash_event.specs.declared.event.Event.{Event}
 use Rattle.dash_event.specs.declared.event.Kind.TheVariants as kind
 use Rattle.dash_event.specs.declared.event.Kind.{Kind}
+use Rattle.dash_model.proofs.Earlier.{guard_of}
 use Rattle.dash_model.proofs.Everywhere.{CopyHas, NotNewer}
 use Rattle.dash_model.proofs.Happened.{Happened, happened, before_is}
 use Rattle.dash_model.proofs.Numbered.{line_below}
@@ -125,7 +126,7 @@ pub shown_at : (w : Config) (log : List Event) (i : ℕ) (a : Access) (v : ℕ) 
 shown_at w log i a v run s =
     let h = happened w log i s.event.kind run s.event.at in
     let c = h.step.event.cluster.0 in
-    record { kind = s.event.kind; at = h; shows = guard_shows w c v h.step.event.kind h.step.done (h.state.parts c) a h.can.steps.guard (ap accesses_in h.is ∙ s.event.is) s.seen }
+    record { kind = s.event.kind; at = h; shows = guard_shows w c v s.event.kind h.step.done (h.state.parts c) a (guard_of w log i s.event.kind h) s.event.is s.seen }
 
 -- its line is one of memory
 pub shown_low : (w : Config) (c v : ℕ) (a : Access) (p : Part) → Shows w c a v p → line_at w a.word.0 < lines w

@@ -15,7 +15,7 @@ pub record Invariant (h : ℕ) (v : Line) (s : State) : Type 0 where
   pub place : Place
   pub known : (x : ℕ) → Known h v s place x
 
--- a step from state s, with the token at p, to state t, with the token at q, keeps what is known of each cluster x
+-- a step from state s, with the token at p, to state t, with the token at q, keeps what is known of each cluster x, and leaves it without anything to read that has weight, where the current content has none
 pub record Keeps (h : ℕ) (v : Line) (s : State) (p : Place) (t : State) (q : Place) : Type 0 where
   pub facts : (x : ℕ) → Facts h s p x → Facts h t q x
   pub covered : (x : ℕ) → Facts h s p x → Cover s p x → Cover t q x
