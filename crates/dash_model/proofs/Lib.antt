@@ -45,7 +45,6 @@ pub mod OwnStores
 pub mod DrainedHarts
 pub mod LockChain
 pub mod RunsCoherent
-pub mod RunsRelease
 pub mod VersionedContents
 pub mod ShownVersions
 pub mod Floors
@@ -110,3 +109,6 @@ pub mod ExampleLocking
 pub mod ExampleWaiting
 pub mod ExampleTrapping
 pub mod Examples
+pub mod RunsRelease
+pub mod RunsAdmissible
+pub mod LawsOffered

@@ -1,9 +1,4 @@
 -- Every run is coherent: the sentences of coherence, each proved in a file of its subject.
-use Rattle.std.proofs.Common.{List}
-use Rattle.dash_event.specs.declared.event.Event.{Event}
-use Rattle.dash_model.specs.Config.{Config}
-use Rattle.dash_model.specs.Machine.{IsRun}
-use Rattle.dash_model.specs.Coherent.{IsCoherent}
 use Rattle.dash_model.specs.RunLaws.{RunsAreCoherent}
 use Rattle.dash_model.proofs.VersionsCount.{versions_count, rmw_of_its_line, rmw_shows_last}
 use Rattle.dash_model.proofs.CommitsFollow.{commits_follow_stores, commits_in_order, no_store_is_passed}

@@ -8,7 +8,7 @@ ghost use Rattle.dash_model.specs.LockFacts.{MessagesAreInRange, LinesAreOfMemor
 ghost use Rattle.dash_model.specs.MachineLaws.{EventsFixEffects, LanesAreQueues, StepsChangeOnePart, StampsRise, CommitsAreNumbered, EventsHappen, LocalRunsGrow, MergesAreRuns};
 ghost use Rattle.dash_model.specs.OwedFacts.{RunsOweAsLogged};
 ghost use Rattle.dash_model.specs.PendingFacts.{PendingLinesAreKept};
-ghost use Rattle.dash_model.specs.RunLaws.{RunsAreCoherent, RunsKeepReleases};
+ghost use Rattle.dash_model.specs.RunLaws.{RunsAreAdmissible, RunsAreCoherent, RunsKeepReleases};
 ghost use Rattle.dash_model.specs.Settling.{WeightFalls};
 ghost use Rattle.dash_model.specs.TableAccesses.{RowsOfAccesses};
 ghost use Rattle.dash_model.specs.TableHarts.{RowsOfHarts};
@@ -53,6 +53,14 @@ pub fn runs_are_coherent()
 /// accesses see.
 pub fn runs_keep_releases()
     ensures { RunsKeepReleases }
+{}
+
+/// Every run leaves an admissible log, whatever the image. Each hart's events are its own instructions, one
+/// after another, each answered as its event says. The log is coherent and keeps the release rule. An SC
+/// succeeds only where the hart's last LR reserved its word, and no other hart has committed a write of the
+/// word since. A lock word is freed only for an Unlock that was sent.
+pub fn runs_are_admissible()
+    ensures { RunsAreAdmissible }
 {}
 
 /// In every run the stores of a hart are those that the log commits, in the order of their commits, and
