@@ -38,7 +38,7 @@ unfolding with_member
 strict-with f lo n [] l b s = (l, b, omega arith)
 strict-with f lo n (x ∷ cs) l b s = strict_with_cases f x lo n cs (x == f) (nat_lt f x) refl refl l b s (λ m. strict-with f (suc x) n cs m b s.2)
 
-strict-length : (lo n : ℕ) (cs : List ℕ) → Strict lo n cs → length cs + lo ≤ n
+pub strict-length : (lo n : ℕ) (cs : List ℕ) → Strict lo n cs → length cs + lo ≤ n
 strict-length lo n [] s = omega arith
 strict-length lo n (c ∷ cs) s = let ih = strict-length (suc c) n cs s.2 in let a = s.0 in omega arith
 
@@ -46,7 +46,7 @@ without_tail : (c : ℕ) (cs : List ℕ) (i : Bool) (m : ℕ) → length cs ≤ 
 without_tail c cs true m h = omega arith
 without_tail c cs false m h = omega arith
 
-without-length : (f : ℕ) (cs : List ℕ) → length (without f cs) ≤ length cs
+pub without-length : (f : ℕ) (cs : List ℕ) → length (without f cs) ≤ length cs
 unfolding without
 without-length f [] = omega arith
 without-length f (c ∷ cs) = without_tail c (without f cs) (not (c == f)) (length cs) (without-length f cs)

@@ -65,7 +65,7 @@ commit_by_test w g n k v h p x xs false is b number =
     let test : (h == g.0) ≡ false = grind (arith, nat_tests) in
     Same refl (ap (λ t. if t then n ∷ [] else []) is) (commit_row_buffer w g.0 k.0 h x xs p ∙ ap (λ t. (cond t (record (p.harts g.0) { buffer = xs }) (p.harts h)).buffer) test)
 
-effect : (w : Config) (c : ℕ) (e : Kind) (d : HartEffect) (p : Part) (h : ℕ) → Guard w c e d p → Effect e h (p.harts h).buffer ((row w c e d p).part.harts h).buffer
+pub effect : (w : Config) (c : ℕ) (e : Kind) (d : HartEffect) (p : Part) (h : ℕ) → Guard w c e d p → Effect e h (p.harts h).buffer ((row w c e d p).part.harts h).buffer
 unfolding row Guard
 effect w c (kind.Store a) d p h can = store_by_test w c a d p h (a.hart.0 == h) refl
 effect w c (kind.Commit g n k v) d p h can = subst (λ b. Effect (kind.Commit g n k v) h (p.harts h).buffer ((commit_row w g.0 k.0 b p).part.harts h).buffer) (sym can.buffer) (commit_by_test w g n k v h p can.oldest can.others (g.0 == h) refl can.buffer can.number_is)
@@ -124,12 +124,12 @@ waits_by log e h b c (More a one still more) k = more_waits log e h b c a one st
 pub not_mine : (w : Config) (c g h : ℕ) → cluster_of w g ≡ c → cluster_of w h ≢ c → (g == h) ≡ false
 not_mine w c g h mine other = elim (same_or_not g h) [ inl e ↦ absurd (other (ap (cluster_of w) (sym e) ∙ mine)) | inr n ↦ grind (arith, nat_tests) ]
 
-no_store : (w : Config) (c : ℕ) (e : Kind) (d : HartEffect) (p : Part) (h : ℕ) → cluster_of w h ≢ c → Guard w c e d p → store_by h e ≡ []
+pub no_store : (w : Config) (c : ℕ) (e : Kind) (d : HartEffect) (p : Part) (h : ℕ) → cluster_of w h ≢ c → Guard w c e d p → store_by h e ≡ []
 unfolding Guard
 no_store w c (kind.Store a) d p h other can = ap (λ b. if b then a ∷ [] else []) (not_mine w c a.hart.0 h can.next.mine other)
 no_store w c _ d p h other can = refl
 
-no_commit : (w : Config) (c : ℕ) (e : Kind) (d : HartEffect) (p : Part) (h : ℕ) → cluster_of w h ≢ c → Guard w c e d p → commit_by h e ≡ []
+pub no_commit : (w : Config) (c : ℕ) (e : Kind) (d : HartEffect) (p : Part) (h : ℕ) → cluster_of w h ≢ c → Guard w c e d p → commit_by h e ≡ []
 unfolding Guard
 no_commit w c (kind.Commit g n k v) d p h other can = ap (λ b. if b then n ∷ [] else []) (not_mine w c g.0 h can.mine other)
 no_commit w c _ d p h other can = refl

@@ -11,7 +11,7 @@ use Rattle.dash_model.specs.Net.{Packet, packet, send, to}
 use Rattle.dash_model.specs.Requests.{invals_to}
 use Rattle.dash_model.specs.OnLine.{reads, datas, wants, brings, naks, gives_back, leaves, gains, acks_to, counts_to, shares, invals, invals_at}
 use Rattle.dash_model.proofs.Weigh.{weigh-append}
-use Rattle.dash_model.proofs.Facts.{misrouted, back_any, own_invals, old_brings, old_backs, old_datas}
+use Rattle.dash_model.proofs.Facts.{misrouted, back_any, own_invals, old_brings, old_backs, datas_weight}
 
 -- invalidations for r to these clusters, as packets of cluster a
 unfoldable pub burst : LineId → ℕ → ℕ → ℕ → List ℕ → List Packet
@@ -120,10 +120,10 @@ old_brings-burst v x l t a r cs = weightless (old_brings v x) l t a r (λ c. ref
 pub old_backs-burst : (v : Line) (x : ℕ) (l : LineId) (t a r : ℕ) (cs : List ℕ) → weigh (old_backs v x) (burst l t a r cs) ≡ 0
 old_backs-burst v x l t a r cs = weightless (old_backs v x) l t a r (λ c. refl) cs
 
-pub old_datas-burst : (v : Line) (x : ℕ) (l : LineId) (t a r : ℕ) (cs : List ℕ) → weigh (old_datas v x) (burst l t a r cs) ≡ 0
-old_datas-burst v x l t a r cs = weightless (old_datas v x) l t a r (λ c. refl) cs
+pub datas_weight-burst : (b : Line → ℕ) (x : ℕ) (l : LineId) (t a r : ℕ) (cs : List ℕ) → weigh (datas_weight b x) (burst l t a r cs) ≡ 0
+datas_weight-burst b x l t a r cs = weightless (datas_weight b x) l t a r (λ c. refl) cs
 
-pub ruleset vbursts = (send-burst, old_brings-burst, old_backs-burst, old_datas-burst)
+pub ruleset vbursts = (send-burst, old_brings-burst, old_backs-burst, datas_weight-burst)
 
 pub ruleset bursts =
     (send-burst, reads-burst, datas-burst, wants-burst, brings-burst, naks-burst, gives_back-burst, leaves-burst, gains-burst, acks_to-burst, counts_to-burst, shares-burst, misrouted-burst, back_any-burst, invals-burst, own_invals-burst)

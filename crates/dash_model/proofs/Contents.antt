@@ -15,11 +15,7 @@ use Rattle.dash_model.specs.Acts.{owe, commit_copy}
 use Rattle.dash_model.proofs.LineState.{IsNext}
 use Rattle.dash_model.proofs.SameLine.{same_line, same-self, same-is}
 use Rattle.dash_model.proofs.Weigh.{send-none}
-use Rattle.dash_model.proofs.Facts.{Place, AtHome, At, Back, Moving, Facts, Cover, Contents, other, at_home, returns, is_back, held, is_reading, came_read, asked, owner_off, came_off, shared_off, read_off, marked, back_any, back_any_msg, holds, old_datas_msg, old_brings_msg, old_backs_msg, old_datas, old_brings, old_backs}
-
-old_datas_msg_only : (v : Line) (x a b : ℕ) (m : Msg) → datas_msg x a b m ≡ 0 → old_datas_msg v x a b m ≡ 0
-old_datas_msg_only v x a b (Data l d) e = grind (arith, nat_tests)
-old_datas_msg_only v x a b _ e = refl
+use Rattle.dash_model.proofs.Facts.{Place, AtHome, At, Back, Moving, Facts, Cover, Contents, other, at_home, returns, is_back, held, is_reading, came_read, asked, owner_off, came_off, marked, back_any, back_any_msg, holds, datas_weight_msg, datas_weight, old_brings_msg, old_backs_msg, old_brings, old_backs, shared_weight, read_weight}
 
 old_brings_msg_only : (v : Line) (x a b : ℕ) (m : Msg) → brings_msg x a b m ≡ 0 → old_brings_msg v x a b m ≡ 0
 old_brings_msg_only v x a b (DataEx l d n) e = grind (arith, nat_tests)
@@ -36,8 +32,12 @@ old_brings_only v x p e = old_brings_msg_only v x p.src p.dst p.msg e
 old_backs_only : (v : Line) (x : ℕ) (p : Packet) → gives_back x p ≡ 0 → old_backs v x p ≡ 0
 old_backs_only v x p e = old_backs_msg_only v x p.src p.dst p.msg e
 
-pub old_datas_only : (v : Line) (x : ℕ) (p : Packet) → datas x p ≡ 0 → old_datas v x p ≡ 0
-old_datas_only v x p e = old_datas_msg_only v x p.src p.dst p.msg e
+datas_weight_msg_only : (b : Line → ℕ) (x a c : ℕ) (m : Msg) → datas_msg x a c m ≡ 0 → datas_weight_msg b x a c m ≡ 0
+datas_weight_msg_only b x a c (Data l d) e = grind (arith, nat_tests)
+datas_weight_msg_only b x a c _ e = refl
+
+pub datas_weight_only : (b : Line → ℕ) (x : ℕ) (p : Packet) → datas x p ≡ 0 → datas_weight b x p ≡ 0
+datas_weight_only b x p e = datas_weight_msg_only b x p.src p.dst p.msg e
 
 -- the token is at a cluster, so it is nowhere else, nor at home or on its way there
 pub record OnlyAt (p : Place) (c x : ℕ) : Type 0 where
@@ -64,19 +64,24 @@ off_by v d false e f = absurd (omega arith)
 pub off_not : (v d : Line) → other v d ≡ 0 → d ≡ v
 off_not v d e = off_by v d (same_line v d) refl e
 
+-- what the home has while it has the token weighs as little as the current content
+pub home_weighs : (b : Line → ℕ) (v d : Line) (p : Place) → b v ≡ 0 → at_home p ≡ 1 → (at_home p ≡ 0) ⊎ (other v d ≡ 0) → b d ≡ 0
+home_weighs b v d p z one (inl e) = absurd (omega arith)
+home_weighs b v d p z one (inr e) = ap b (off_not v d e) ∙ z
+
 pub owner_current : (hs : List ℕ) (o : ℕ) (e : Line) (k : Copy) (m : Line) (r : ℕ) → k ≡ Held hs (Some o) e → owner_off k m + r ≡ 0 → e ≡ m
 owner_current hs o e k m r f g = let q : owner_off (Held hs (Some o) e) m + r ≡ 0 = subst (λ k. owner_off k m + r ≡ 0) f g in off_not m e (omega arith)
 
 not_reading : (k : Copy) (b : Slot) (hs : List ℕ) (o : ℕ) (e : Line) → k ≡ Held hs (Some o) e → is_reading b + held k ≤ 1 → is_reading b ≡ 0
 not_reading k b hs o e f g = grind (arith, nat_tests)
 
-own_fresh : (b : Slot) (v : Line) (n : ℕ) → is_reading b ≡ 0 → 0 + read_off b v + asked b n ≡ 0
+own_fresh : (b : Slot) (v : Line) (n : ℕ) → is_reading b ≡ 0 → 0 + read_weight (other v) b + asked b n ≡ 0
 own_fresh (Reads n t phase) v k e = absurd (omega arith)
 own_fresh NoSlot v k e = omega arith
 own_fresh (Owns n t phase) v k e = omega arith
 
 -- nothing to read from is nothing old
-none_old : (k : Copy) (b : Slot) (v : Line) (n o : ℕ) → held k + came_read b + asked b n ≡ 0 → (n ≡ 0 → o ≡ 0) → shared_off k v + read_off b v + asked b o ≡ 0
+none_old : (k : Copy) (b : Slot) (v : Line) (n o : ℕ) → held k + came_read b + asked b n ≡ 0 → (n ≡ 0 → o ≡ 0) → shared_weight (other v) k + read_weight (other v) b + asked b o ≡ 0
 none_old NoCopy NoSlot v n o e f = omega arith
 none_old NoCopy (Reads i t Asked) v n o e f = let z : o ≡ 0 = f (omega arith) in omega arith
 none_old NoCopy (Reads i t Poisoned) v n o e f = omega arith
@@ -108,11 +113,11 @@ sum_one : (b c h : ℕ) → 1 + b + c ≡ h → h ≤ 1 → (b ≡ 0) × (c ≡ 
 sum_one b c h e l = (omega arith, omega arith)
 
 abbrev pub Fresh : Line → ℕ → State → Cell → Type 0
-Fresh v x s a = (1 ≤ weigh (invals_at x) s.net) ⊎ (shared_off a.copy v + read_off a.slot v + asked a.slot (weigh (old_datas v x) s.net) ≡ 0)
+Fresh v x s a = (1 ≤ weigh (invals_at x) s.net) ⊎ (shared_weight (other v) a.copy + read_weight (other v) a.slot + asked a.slot (weigh (datas_weight (other v) x) s.net) ≡ 0)
 
-covered_fresh : (s : State) (p : Place) (v : Line) (x : ℕ) → holds p x ≡ 0 → marked x s.home.entry ≡ 0 → weigh (shares x) s.net ≡ 0 → (weigh (datas x) s.net ≡ 0 → weigh (old_datas v x) s.net ≡ 0) → Cover s p x → Fresh v x s (s.cells x)
+covered_fresh : (s : State) (p : Place) (v : Line) (x : ℕ) → holds p x ≡ 0 → marked x s.home.entry ≡ 0 → weigh (shares x) s.net ≡ 0 → (weigh (datas x) s.net ≡ 0 → weigh (datas_weight (other v) x) s.net ≡ 0) → Cover s p x → Fresh v x s (s.cells x)
 covered_fresh s p v x h mk sh f (inl one_here) = absurd (omega arith)
-covered_fresh s p v x h mk sh f (inr (inl nothing)) = inr (none_old (s.cells x).copy (s.cells x).slot v (weigh (datas x) s.net) (weigh (old_datas v x) s.net) nothing f)
+covered_fresh s p v x h mk sh f (inr (inl nothing)) = inr (none_old (s.cells x).copy (s.cells x).slot v (weigh (datas x) s.net) (weigh (datas_weight (other v) x) s.net) nothing f)
 covered_fresh s p v x h mk sh f (inr (inr some)) = inl (omega arith)
 
 shares_only_msg : (x a b : ℕ) (m : Msg) → back_any_msg m ≡ 0 → shares_msg x a b m ≡ 0
@@ -148,14 +153,14 @@ owner_holds k hs o f b c h e g l = let q : 1 + b + c ≡ h = subst (λ k. owned 
 
 fresh_sent : (s : State) (i c x : ℕ) (v : Line) (a b : Cell) → Fresh v x s b → Fresh v x (written s i c a) b
 fresh_sent s i c x v a b (inl e) = inl (let f = send-none (invals_at x) s.net i c in omega arith)
-fresh_sent s i c x v a b (inr e) = inr (ap (λ n. shared_off b.copy v + read_off b.slot v + asked b.slot n) (send-none (old_datas v x) s.net i c) ∙ e)
+fresh_sent s i c x v a b (inr e) = inr (ap (λ n. shared_weight (other v) b.copy + read_weight (other v) b.slot + asked b.slot n) (send-none (datas_weight (other v) x) s.net i c) ∙ e)
 
 commit_other : (s : State) (p : Place) (h i c x : ℕ) (v : Line) (a : Cell) → x ≢ c → holds p c ≡ 1 → Facts h s p x → Cover s p x → Contents (written s i c a) p v x
 commit_other s p h i c x v a n hold k cover =
     let only = only_at p c x hold in
     let here : holds p x ≡ 0 = only.here ∙ one_other c x n in
     let none = sum_none (owned (s.cells x).copy) (came_own (s.cells x).slot) (weigh (brings x) s.net) (holds p x) k.tokens.token here in
-    let fresh = covered_fresh s p v x here (none_marked x s.home.entry p k.tokens.home only.away) (weigh-only back_any (shares x) (shares_only x) s.net (k.tokens.backs ∙ none_back p c x hold)) (weigh-only (datas x) (old_datas v x) (old_datas_only v x) s.net) cover in
+    let fresh = covered_fresh s p v x here (none_marked x s.home.entry p k.tokens.home only.away) (weigh-only back_any (shares x) (shares_only x) s.net (k.tokens.backs ∙ none_back p c x hold)) (weigh-only (datas x) (datas_weight (other v) x) (datas_weight_only (other v) x) s.net) cover in
     record {
       brought = send-none (old_brings v x) s.net i c ∙ weigh-only (brings x) (old_brings v x) (old_brings_only v x) s.net none.2;
       given = send-none (old_backs v x) s.net i c ∙ weigh-only (gives_back x) (old_backs v x) (old_backs_only v x) s.net (k.tokens.back ∙ only.stays);
@@ -175,7 +180,7 @@ commit_own s p h i c a hs o d e was is slot_is hold k =
       given = send-none (old_backs d c) s.net i c ∙ weigh-only (gives_back c) (old_backs d c) (old_backs_only d c) s.net (k.tokens.back ∙ only.stays);
       owner = of_same (λ b. owner_off b.copy d + came_off b.slot d ≡ 0) a (s.cells c) c (ap₂ (λ y z. y + z) (ap (λ y. owner_off y d) is ∙ same_content d) (ap (λ y. came_off y d) slot_is ∙ none_came (s.cells c).slot d none.0));
       mem = inl only.away;
-      fresh = of_same (λ b. Fresh d c (written s i c a) b) a (s.cells c) c (inr (ap₂ (λ y z. shared_off y d + read_off z d + asked z (weigh (old_datas d c) (written s i c a).net)) is slot_is ∙ own_fresh (s.cells c).slot d (weigh (old_datas d c) (written s i c a).net) reading));
+      fresh = of_same (λ b. Fresh d c (written s i c a) b) a (s.cells c) c (inr (ap₂ (λ y z. shared_weight (other d) y + read_weight (other d) z + asked z (weigh (datas_weight (other d) c) (written s i c a).net)) is slot_is ∙ own_fresh (s.cells c).slot d (weigh (datas_weight (other d) c) (written s i c a).net) reading));
     }
 
 same_cluster : (x c : ℕ) → (x ≡ c) ⊎ (x ≢ c)

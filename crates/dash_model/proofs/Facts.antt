@@ -181,34 +181,39 @@ old_backs_msg v x a b (WriteBack l d) = cond (a == x) (other v d) 0
 old_backs_msg v x a b (SharingBack l d r) = cond (a == x) (other v d) 0
 old_backs_msg v x a b _ = 0
 
-abbrev pub old_datas_msg : Line → ℕ → ℕ → ℕ → Msg → ℕ
-old_datas_msg v x a b (Data l d) = cond (b == x) (other v d) 0
-old_datas_msg v x a b _ = 0
-
 abbrev pub old_brings : Line → ℕ → Packet → ℕ
 old_brings v x p = old_brings_msg v x p.src p.dst p.msg
 
 abbrev pub old_backs : Line → ℕ → Packet → ℕ
 old_backs v x p = old_backs_msg v x p.src p.dst p.msg
 
-abbrev pub old_datas : Line → ℕ → Packet → ℕ
-old_datas v x p = old_datas_msg v x p.src p.dst p.msg
-
 abbrev pub owner_off : Copy → Line → ℕ
 owner_off (Held hs (Some o) d) v = other v d
 owner_off _ v = 0
-
-abbrev pub shared_off : Copy → Line → ℕ
-shared_off (Held hs None d) v = other v d
-shared_off _ v = 0
 
 abbrev pub came_off : Slot → Line → ℕ
 came_off (Owns n t (Came d)) v = other v d
 came_off _ v = 0
 
-abbrev pub read_off : Slot → Line → ℕ
-read_off (Reads n t (Came d)) v = other v d
-read_off _ v = 0
+-- a weight of contents, of what a cluster has to read from that is not owned, and of copies on their way to x
+abbrev pub shared_weight : (Line → ℕ) → Copy → ℕ
+shared_weight b (Held hs None d) = b d
+shared_weight b _ = 0
+
+abbrev pub read_weight : (Line → ℕ) → Slot → ℕ
+read_weight b (Reads n t (Came d)) = b d
+read_weight b _ = 0
+
+abbrev pub datas_weight_msg : (Line → ℕ) → ℕ → ℕ → ℕ → Msg → ℕ
+datas_weight_msg b x a c (Data l d) = cond (c == x) (b d) 0
+datas_weight_msg b x a c _ = 0
+
+abbrev pub datas_weight : (Line → ℕ) → ℕ → Packet → ℕ
+datas_weight b x p = datas_weight_msg b x p.src p.dst p.msg
+
+-- nothing that cluster x has to read from, or is to get, has weight
+abbrev pub NoneToRead : (Line → ℕ) → State → ℕ → Type 0
+NoneToRead b s x = shared_weight b (s.cells x).copy + read_weight b (s.cells x).slot + asked (s.cells x).slot (weigh (datas_weight b x) s.net) ≡ 0
 
 -- the token has content v, and so has all that is to be read, unless an Inval is on its way to it
 pub record Contents (s : State) (p : Place) (v : Line) (x : ℕ) : Type 0 where
@@ -216,4 +221,4 @@ pub record Contents (s : State) (p : Place) (v : Line) (x : ℕ) : Type 0 where
   pub given : weigh (old_backs v x) s.net ≡ 0
   pub owner : owner_off (s.cells x).copy v + came_off (s.cells x).slot v ≡ 0
   pub mem : (at_home p ≡ 0) ⊎ (other v s.home.mem ≡ 0)
-  pub fresh : (1 ≤ weigh (invals_at x) s.net) ⊎ (shared_off (s.cells x).copy v + read_off (s.cells x).slot v + asked (s.cells x).slot (weigh (old_datas v x) s.net) ≡ 0)
+  pub fresh : (1 ≤ weigh (invals_at x) s.net) ⊎ NoneToRead (other v) s x

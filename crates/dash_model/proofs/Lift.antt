@@ -68,7 +68,7 @@ act_on w l v m g q ss a d n b h console =
     let net : on l (send (less (taken c g.stamp g.event.kind) m.net) g.event.stamp c ss) ≡ send (on l m.net) g.event.stamp c (act_row (line_id l) (home_of w l) a (p.cells l) (p.homes l)).sent = ap (λ xs. on l (send (less (taken c g.stamp g.event.kind) m.net) g.event.stamp c xs)) d.sent ∙ on-send-all l g.event.stamp c (less (taken c g.stamp g.event.kind) m.net) (act_row (line_id l) (home_of w l) a (p.cells l) (p.homes l)).sent (act_sends l (home_of w l) a (p.cells l) (p.homes l)) ∙ ap (λ xs. send xs g.event.stamp c (act_row (line_id l) (home_of w l) a (p.cells l) (p.homes l)).sent) n in
     let s = along_row w m l c g.event.stamp (λ x y. act_row (line_id l) (home_of w l) a x y) q (on l m.net) (send (less (taken c g.stamp g.event.kind) m.net) g.event.stamp c ss) console (act_local (line_id l) c (home_of w l) a) cells homes net in
     record {
-      invariant = subst (Invariant (home_of w l) (content_after v a)) (sym s) (act_step (at w l) (along w l m) v g.event.stamp c a d.may h.invariant);
+      invariant = subst (Invariant (home_of w l) (content_after v a)) (sym s) (act_step (at w l) (along w l m) v g.event.stamp c a d.may h.invariant).invariant;
       bounded = subst (Bounded w.top.clusters) (sym s) (act_bounded w.top.clusters (at w l) (along w l m) g.event.stamp c a b h.bounded);
       newest = subst (Everywhere (NotNewer (content_after v a))) (sym s) (act_not_newer (at w l) (along w l m) v g.event.stamp c a d.may h.invariant h.newest);
     }
@@ -85,7 +85,7 @@ view_step w l v m g q ss (Does k a d) n b h console =
       | inr o ↦ subst (λ u. Holds w l u (changed m g.event.cluster.0 q (send (less (taken g.event.cluster.0 g.stamp g.event.kind) m.net) g.event.stamp g.event.cluster.0 ss) console)) (sym (d.writes l v ∙ ap (λ i. cond i (content_after v a) v) (test_false k l (λ z. o (sym z))))) (off_step w l v m g q ss (d.cells l ∙ act_off_cells Cell (m.parts g.event.cluster.0).cells k l (act_row (line_id k) (home_of w k) a ((m.parts g.event.cluster.0).cells k) ((m.parts g.event.cluster.0).homes k)).cell o) (d.homes l ∙ act_off_cells Home (m.parts g.event.cluster.0).homes k l (act_row (line_id k) (home_of w k) a ((m.parts g.event.cluster.0).cells k) ((m.parts g.event.cluster.0).homes k)).home o) (subst (AllAre l false) (sym d.sent) (all_other k l (act_row (line_id k) (home_of w k) a ((m.parts g.event.cluster.0).cells k) ((m.parts g.event.cluster.0).homes k)).sent (act_sends k (home_of w k) a ((m.parts g.event.cluster.0).cells k) ((m.parts g.event.cluster.0).homes k)) o)) n h console)
     ]
 
-line_msg : (l : ℕ) (m : Msg) → is_of l m ≡ true → IsLineMsg m
+pub line_msg : (l : ℕ) (m : Msg) → is_of l m ≡ true → IsLineMsg m
 line_msg l (LockAsk h n word v) e = absurd (cc)
 line_msg l (Unlock h n word) e = absurd (cc)
 line_msg l (LockGrant h) e = absurd (cc)
@@ -112,7 +112,7 @@ take_line w l v m t c f u x q console o h d b k =
     let net : on l (send (tail f c (class_of x) m.net) t c q.sent) ≡ send (tail f c (class_of x) (on l m.net)) t c (take_row (first_prefetch w) (home_of w l) c f x (p.cells l) (p.homes l)).sent = ap (λ xs. on l (send (tail f c (class_of x) m.net) t c xs)) d.sent ∙ on-send-all l t c (tail f c (class_of x) m.net) (take_row (first_prefetch w) (home_of w l) c f x (p.cells l) (p.homes l)).sent (take_sends l (first_prefetch w) (home_of w l) c f x (p.cells l) (p.homes l) o) ∙ ap (λ xs. send xs t c (take_row (first_prefetch w) (home_of w l) c f x (p.cells l) (p.homes l)).sent) (on-tail l f c (class_of x) (parcel f c x u) m.net o h) in
     let s = along_row w m l c t (λ a e. take_row (first_prefetch w) (home_of w l) c f x a e) (record q.part { last = t }) (tail f c (class_of x) (on l m.net)) (send (tail f c (class_of x) m.net) t c q.sent) console (take_local (first_prefetch w) (home_of w l) c f x) d.cells d.homes net in
     record {
-      invariant = subst (Invariant (home_of w l) v) (sym s) (take_step (at w l) (along w l m) v t c f u x (line_msg l x o) first k.invariant);
+      invariant = subst (Invariant (home_of w l) v) (sym s) (take_step (at w l) (along w l m) v t c f u x (line_msg l x o) first k.invariant).invariant;
       bounded = subst (Bounded w.top.clusters) (sym s) (take_bounded w.top.clusters (at w l) (along w l m) t c f u x b first k.bounded);
       newest = subst (Everywhere (NotNewer v)) (sym s) (take_keeps (NotNewer v) (at w l) (along w l m) t c f u x first k.newest);
     }

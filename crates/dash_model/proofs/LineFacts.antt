@@ -15,7 +15,7 @@ use Rattle.dash_model.specs.Cell.{Copy, NoCopy, Held, Asked, Poisoned, Came, Ref
 use Rattle.dash_model.specs.Machine.{Machine, Reaches}
 use Rattle.dash_model.specs.LineFacts.{IsOnItsWay, IsCurrent, InMemory, tokens_at, Token, tokens_for, IsOwnedBy, ThereOrComing, Returning, Passed, waiting_slots, IsReading, IsOwning, CountsAdd, HasThing, ByCopy, BySlot, ByData, IsInvalidated, IsMarked, Carries, NoneIsNewer, IsCovered, ByToken, ByMark, BySharing, ByInval, LineFacts}
 use Rattle.dash_model.proofs.LineState.{State}
-use Rattle.dash_model.proofs.Facts.{Place, AtHome, At, Back, Moving, Facts, Cover, Contents, Counted, counting, own_invals, own_invals_msg, is_reading as slot_reads, holds, at_home, dirty_of, owner_in, marked, things, held, came_read, asked, other, owner_off, came_off, shared_off, read_off, old_brings, old_backs, old_datas, old_brings_msg, old_backs_msg, old_datas_msg, waits_read, waits_own}
+use Rattle.dash_model.proofs.Facts.{Place, AtHome, At, Back, Moving, Facts, Cover, Contents, Counted, counting, own_invals, own_invals_msg, is_reading as slot_reads, holds, at_home, dirty_of, owner_in, marked, things, held, came_read, asked, other, owner_off, came_off, old_brings, old_backs, old_brings_msg, old_backs_msg, waits_read, waits_own, shared_weight, read_weight, datas_weight, datas_weight_msg, NoneToRead}
 use Rattle.dash_model.proofs.Contents.{off_not, owner_current}
 use Rattle.dash_model.proofs.Steps.{Invariant}
 use Rattle.dash_model.proofs.OnNet.{AllOf}
@@ -161,24 +161,24 @@ owns : (s : Slot) (k : Acks) (a d h m g : ℕ) (o : List ℕ) → k ≡ Expects 
 owns s k a d h m g o is e = (expecting s a d h m g o (subst (λ z. Counted s z a d h) is e)).3
 
 -- stale contents
-shared_by : (s : State) (v : Line) (c : ℕ) (hs : List ℕ) (d : Line) → (s.cells c).copy ≡ Held hs None d → (1 ≤ weigh (invals_at c) s.net) ⊎ (shared_off (s.cells c).copy v + read_off (s.cells c).slot v + asked (s.cells c).slot (weigh (old_datas v c) s.net) ≡ 0) → (d ≡ v) ⊎ (1 ≤ weigh (invals_at c) s.net)
+shared_by : (s : State) (v : Line) (c : ℕ) (hs : List ℕ) (d : Line) → (s.cells c).copy ≡ Held hs None d → (1 ≤ weigh (invals_at c) s.net) ⊎ NoneToRead (other v) s c → (d ≡ v) ⊎ (1 ≤ weigh (invals_at c) s.net)
 shared_by s v c hs d e (inl i) = inr i
-shared_by s v c hs d e (inr z) = let f : shared_off (s.cells c).copy v ≡ other v d = ap (λ x. shared_off x v) e in inl (off_not v d (omega arith))
+shared_by s v c hs d e (inr z) = let f : shared_weight (other v) (s.cells c).copy ≡ other v d = ap (λ x. shared_weight (other v) x) e in inl (off_not v d (omega arith))
 
 stale_copy : (s : State) (v : Line) (c : ℕ) (p : Place) (hs : List ℕ) (o : Option ℕ) (d : Line) → (s.cells c).copy ≡ Held hs o d → Contents s p v c → (d ≡ v) ⊎ (1 ≤ weigh (invals_at c) s.net)
 stale_copy s v c p hs (Some o) d e k = inl (owner_current hs o d (s.cells c).copy v (came_off (s.cells c).slot v) e k.owner)
 stale_copy s v c p hs None d e k = shared_by s v c hs d e k.fresh
 
-stale_slot : (s : State) (v : Line) (c n h : ℕ) (d : Line) → (s.cells c).slot ≡ Reads n h (Came d) → (1 ≤ weigh (invals_at c) s.net) ⊎ (shared_off (s.cells c).copy v + read_off (s.cells c).slot v + asked (s.cells c).slot (weigh (old_datas v c) s.net) ≡ 0) → (d ≡ v) ⊎ (1 ≤ weigh (invals_at c) s.net)
+stale_slot : (s : State) (v : Line) (c n h : ℕ) (d : Line) → (s.cells c).slot ≡ Reads n h (Came d) → (1 ≤ weigh (invals_at c) s.net) ⊎ NoneToRead (other v) s c → (d ≡ v) ⊎ (1 ≤ weigh (invals_at c) s.net)
 stale_slot s v c n h d e (inl i) = inr i
-stale_slot s v c n h d e (inr z) = let f : read_off (s.cells c).slot v ≡ other v d = ap (λ x. read_off x v) e in inl (off_not v d (omega arith))
+stale_slot s v c n h d e (inr z) = let f : read_weight (other v) (s.cells c).slot ≡ other v d = ap (λ x. read_weight (other v) x) e in inl (off_not v d (omega arith))
 
-stale_data : (s : State) (v : Line) (c n h : ℕ) (q : Packet) (k : LineId) (d : Line) → (s.cells c).slot ≡ Reads n h Asked → IsOnItsWay q s.net → q.dst ≡ c → q.msg ≡ Data k d → (1 ≤ weigh (invals_at c) s.net) ⊎ (shared_off (s.cells c).copy v + read_off (s.cells c).slot v + asked (s.cells c).slot (weigh (old_datas v c) s.net) ≡ 0) → (d ≡ v) ⊎ (1 ≤ weigh (invals_at c) s.net)
+stale_data : (s : State) (v : Line) (c n h : ℕ) (q : Packet) (k : LineId) (d : Line) → (s.cells c).slot ≡ Reads n h Asked → IsOnItsWay q s.net → q.dst ≡ c → q.msg ≡ Data k d → (1 ≤ weigh (invals_at c) s.net) ⊎ NoneToRead (other v) s c → (d ≡ v) ⊎ (1 ≤ weigh (invals_at c) s.net)
 stale_data s v c n h q k d e at t g (inl i) = inr i
 stale_data s v c n h q k d e at t g (inr z) =
-    let some = weigh_at (old_datas v c) s.net q at in
-    let same : old_datas v c q ≡ other v d = ap (λ m. old_datas_msg v c q.src q.dst m) g ∙ ap (λ b. cond (b == c) (other v d) 0) t ∙ if_same c (other v d) in
-    let wait : asked (s.cells c).slot (weigh (old_datas v c) s.net) ≡ weigh (old_datas v c) s.net = ap (λ x. asked x (weigh (old_datas v c) s.net)) e in
+    let some = weigh_at (datas_weight (other v) c) s.net q at in
+    let same : datas_weight (other v) c q ≡ other v d = ap (λ m. datas_weight_msg (other v) c q.src q.dst m) g ∙ ap (λ b. cond (b == c) (other v d) 0) t ∙ if_same c (other v d) in
+    let wait : asked (s.cells c).slot (weigh (datas_weight (other v) c) s.net) ≡ weigh (datas_weight (other v) c) s.net = ap (λ x. asked x (weigh (datas_weight (other v) c) s.net)) e in
     inl (off_not v d (omega arith))
 
 -- coverage
@@ -214,7 +214,7 @@ covered w l m p c k (inr (inl z)) t = absurd (let s = some_thing w l m c t in om
 covered w l m p c k (inr (inr s)) t = covered_by w l m c (some_of (marked c (along w l m).home.entry) (weigh (shares c) (on l m.net)) (weigh (invals_at c) (on l m.net)) s)
 
 -- one epoch
-inval_weighs : (net : List Packet) (q : Packet) (k : LineId) (r : ClusterId) → IsOnItsWay q net → q.msg ≡ Inval k r → 1 ≤ weigh (invals r.0) net
+pub inval_weighs : (net : List Packet) (q : Packet) (k : LineId) (r : ClusterId) → IsOnItsWay q net → q.msg ≡ Inval k r → 1 ≤ weigh (invals r.0) net
 inval_weighs net q k r at e =
     let some = weigh_at (invals r.0) net q at in
     let same : invals r.0 q ≡ one r.0 r.0 = ap (λ m. invals_msg r.0 q.src q.dst m) e in

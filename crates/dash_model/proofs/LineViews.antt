@@ -27,7 +27,7 @@ use Rattle.dash_model.proofs.Tests.{same, differ}
 pub data LineStep (w : Config) (l : ℕ) (m : Machine) (g : Step) : Type 0 where
   Rests : along w l (after w m g) ≡ along w l m → LineStep w l m g
   Does_act : (a : Act) → MayAct a ((m.parts g.event.cluster.0).cells l) → along w l (after w m g) ≡ line.after (at w l) (along w l m) (Acts g.event.stamp g.event.cluster.0 a) → LineStep w l m g
-  Takes_one : (f : ClusterId) (x : Msg) → head f.0 g.event.cluster.0 (class_of x) (on l m.net) ≡ Some (parcel f.0 g.event.cluster.0 x g.stamp) → along w l (after w m g) ≡ line.after (at w l) (along w l m) (Takes g.event.stamp g.event.cluster.0 f.0 x) → LineStep w l m g
+  Takes_one : (f : ClusterId) (x : Msg) → is_of l x ≡ true → head f.0 g.event.cluster.0 (class_of x) (on l m.net) ≡ Some (parcel f.0 g.event.cluster.0 x g.stamp) → along w l (after w m g) ≡ line.after (at w l) (along w l m) (Takes g.event.stamp g.event.cluster.0 f.0 x) → LineStep w l m g
 
 act_view : (w : Config) (l : ℕ) (m : Machine) (g : Step) (a : Act) → ActsOn w g.event.kind (m.parts g.event.cluster.0) (row w g.event.cluster.0 g.event.kind g.done (m.parts g.event.cluster.0)).part (row w g.event.cluster.0 g.event.kind g.done (m.parts g.event.cluster.0)).sent l a → on l (less (taken g.event.cluster.0 g.stamp g.event.kind) m.net) ≡ on l m.net → LineStep w l m g
 act_view w l m g a d n =
@@ -61,7 +61,7 @@ taken_to w m t c f x d b = changed m c (record (msg_row_if b w c f.0 x d (m.part
 
 pub data TakeStep (w : Config) (l : ℕ) (m n : Machine) (t c u : ℕ) (f : ClusterId) (x : Msg) : Type 0 where
   Off : along w l n ≡ along w l m → TakeStep w l m n t c u f x
-  On : head f.0 c (class_of x) (on l m.net) ≡ Some (parcel f.0 c x u) → along w l n ≡ line.after (at w l) (along w l m) (Takes t c f.0 x) → TakeStep w l m n t c u f x
+  On : is_of l x ≡ true → head f.0 c (class_of x) (on l m.net) ≡ Some (parcel f.0 c x u) → along w l n ≡ line.after (at w l) (along w l m) (Takes t c f.0 x) → TakeStep w l m n t c u f x
 
 take_by : (w : Config) (l : ℕ) (v : Line) (m : Machine) (t c u : ℕ) (f : ClusterId) (x : Msg) (d : HartEffect) (b o : Bool) → applies w c x (m.parts c) ≡ b → is_of l x ≡ o → l < lines w → head f.0 c (class_of x) m.net ≡ Some (parcel f.0 c x u) → Holds w l v m → TakeStep w l m (taken_to w m t c f x d b) t c u f x
 take_by w l v m t c u f x d b true e o i h k =
@@ -70,7 +70,7 @@ take_by w l v m t c u f x d b true e o i h k =
     let applied = sym e ∙ case_applies w l v c f.0 u x p (along w l m) i o first refl k.invariant k.bounded in
     let r = take_on_if w c f.0 x d p l b applied o in
     let net : on l (send (tail f.0 c (class_of x) m.net) t c (msg_row_if b w c f.0 x d p).sent) ≡ send (tail f.0 c (class_of x) (on l m.net)) t c (take_row (first_prefetch w) (home_of w l) c f.0 x (p.cells l) (p.homes l)).sent = ap (λ xs. on l (send (tail f.0 c (class_of x) m.net) t c xs)) r.sent ∙ on-send-all l t c (tail f.0 c (class_of x) m.net) (take_row (first_prefetch w) (home_of w l) c f.0 x (p.cells l) (p.homes l)).sent (take_sends l (first_prefetch w) (home_of w l) c f.0 x (p.cells l) (p.homes l) o) ∙ ap (λ xs. send xs t c (take_row (first_prefetch w) (home_of w l) c f.0 x (p.cells l) (p.homes l)).sent) (on-tail l f.0 c (class_of x) (parcel f.0 c x u) m.net o h) in
-    On first (along_row w m l c t (λ a y. take_row (first_prefetch w) (home_of w l) c f.0 x a y) (record (msg_row_if b w c f.0 x d p).part { last = t }) (tail f.0 c (class_of x) (on l m.net)) (send (tail f.0 c (class_of x) m.net) t c (msg_row_if b w c f.0 x d p).sent) (m.console ++ []) (take_local (first_prefetch w) (home_of w l) c f.0 x) r.cells r.homes net)
+    On o first (along_row w m l c t (λ a y. take_row (first_prefetch w) (home_of w l) c f.0 x a y) (record (msg_row_if b w c f.0 x d p).part { last = t }) (tail f.0 c (class_of x) (on l m.net)) (send (tail f.0 c (class_of x) m.net) t c (msg_row_if b w c f.0 x d p).sent) (m.console ++ []) (take_local (first_prefetch w) (home_of w l) c f.0 x) r.cells r.homes net)
 take_by w l v m t c u f x d b false e o i h k =
     let a = take_off_if w c f.0 x d (m.parts c) l b o in
     Off (along_still w m l c (record (msg_row_if b w c f.0 x d (m.parts c)).part { last = t }) (send (tail f.0 c (class_of x) m.net) t c (msg_row_if b w c f.0 x d (m.parts c)).sent) (m.console ++ []) a.cells a.homes (on-send-none l t c (tail f.0 c (class_of x) m.net) (msg_row_if b w c f.0 x d (m.parts c)).sent a.sent ∙ on-tail-off l f.0 c (class_of x) (parcel f.0 c x u) m.net o h))
@@ -81,7 +81,7 @@ take_kind w l v m t c u f x d i h k = take_by w l v m t c u f x d (applies w c x
 
 take_view : (w : Config) (l : ℕ) (m : Machine) (g : Step) (f : ClusterId) (x : Msg) → TakeStep w l m (after w m g) g.event.stamp g.event.cluster.0 g.stamp f x → LineStep w l m g
 take_view w l m g f x (Off e) = Rests e
-take_view w l m g f x (On h e) = Takes_one f x h e
+take_view w l m g f x (On o h e) = Takes_one f x o h e
 
 view_kind : (w : Config) (l : ℕ) (v : Line) (m : Machine) (g : Step) (e : Kind) → g.event.kind ≡ e → l < lines w → CanHappen w m g → Holds w l v m → LineStep w l m g
 view_kind w l v m g (kind.Take f x) e i h k =

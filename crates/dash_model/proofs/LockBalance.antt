@@ -83,7 +83,7 @@ unfolding weigh
 weigh_more h [] x = omega arith
 weigh_more h (y ∷ ys) x = let rest = weigh_more h ys x in omega arith
 
-weigh_first : (h : ℕ) (xs : List Waiter) (x : Waiter) → weigh (is_waiter h) (x ∷ xs) ≡ is_waiter h x + weigh (is_waiter h) xs
+pub weigh_first : (h : ℕ) (xs : List Waiter) (x : Waiter) → weigh (is_waiter h) (x ∷ xs) ≡ is_waiter h x + weigh (is_waiter h) xs
 unfolding weigh
 weigh_first h xs x = refl
 

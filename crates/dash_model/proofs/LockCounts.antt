@@ -45,7 +45,7 @@ abbrev served_in : ℕ → List Event → ℕ
 served_in h log = sum_by (λ (e : Event). serves e.kind h) log
 
 -- an answer to hart h
-abbrev answers : ℕ → Packet → ℕ
+abbrev pub answers : ℕ → Packet → ℕ
 answers h q = answer_msg h q.msg
 
 -- what is on its way
@@ -54,7 +54,7 @@ answer_is h (LockGrant t) = omega arith
 answer_is h (UnlockAck t old) = omega arith
 answer_is h _ = omega arith
 
-answers_le : (h : ℕ) (net : List Packet) → weigh (answers h) net ≤ weigh (of_hart h) net
+pub answers_le : (h : ℕ) (net : List Packet) → weigh (answers h) net ≤ weigh (of_hart h) net
 unfolding weigh
 answers_le h [] = omega arith
 answers_le h (p ∷ ps) = let here = answer_is h p.msg in let rest = answers_le h ps in omega arith
@@ -64,7 +64,7 @@ unfolding weigh
 sent_weight h t c [] = refl
 sent_weight h t c (s ∷ ss) = let rest = sent_weight h t c ss in omega arith
 
-send_weight : (h t c : ℕ) (net : List Packet) (ss : List Sent) → weigh (answers h) (send net t c ss) ≡ weigh (answers h) net + sent_answers h ss
+pub send_weight : (h t c : ℕ) (net : List Packet) (ss : List Sent) → weigh (answers h) (send net t c ss) ≡ weigh (answers h) net + sent_answers h ss
 unfolding send
 send_weight h t c net ss = let all = weigh-append (answers h) net (map (packet t c) ss) in let sent = sent_weight h t c ss in omega arith
 
@@ -73,7 +73,7 @@ now_is h f (LockGrant t) = refl
 now_is h f (UnlockAck t old) = refl
 now_is h f _ = refl
 
-less_weight : (h c u : ℕ) (e : Kind) (net : List Packet) → AtHead (taken c u e) net → weigh (answers h) (less (taken c u e) net) + answers_now e h ≡ weigh (answers h) net
+pub less_weight : (h c u : ℕ) (e : Kind) (net : List Packet) → AtHead (taken c u e) net → weigh (answers h) (less (taken c u e) net) + answers_now e h ≡ weigh (answers h) net
 less_weight h c u (kind.Take f m) net first = ap (λ y. weigh (answers h) (less (taken c u (kind.Take f m)) net) + y) (sym (now_is h f m)) ∙ cut f.0 c (class_of m) (parcel f.0 c m u) net first (answers h)
 less_weight h c u (kind.Free f a) net first = cut f.0 c Request (parcel f.0 c (Unlock a.hart a.number a.word) u) net first (answers h)
 less_weight h c u _ net first = omega arith

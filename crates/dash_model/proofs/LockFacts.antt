@@ -94,7 +94,7 @@ asking_by w m c e d h q false is harts can well =
     let z = idle.1 in
     omega arith
 
-one_step : (w : Config) (log : List Event) (m : Machine) (g : Step) → Reaches w log m → CanHappen w m g → OneEach w m → OneEach w (after w m g)
+pub one_step : (w : Config) (log : List Event) (m : Machine) (g : Step) → Reaches w log m → CanHappen w m g → OneEach w m → OneEach w (after w m g)
 one_step w log m g r can k h =
     let c = g.event.cluster.0 in
     let e = g.event.kind in
@@ -111,7 +111,7 @@ one_step w log m g r can k h =
     let before = k h in
     omega arith
 
-opening_one : (w : Config) → OneEach w (opening w)
+pub opening_one : (w : Config) → OneEach w (opening w)
 unfolding weigh
 opening_one w h = let none = total_none (λ i. weigh (is_waiter h) (queue_of w (opening w) i)) w.top.locks (λ i l. refl) in omega arith
 

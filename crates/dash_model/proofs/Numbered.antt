@@ -47,28 +47,28 @@ unfolding Guard
 rmw_fits w c y d p a k v e g = subst (λ z. Guard w c z d p) e g
 
 -- where a commit's word is, is a line of memory
-line_below : (w : Config) (address l : ℕ) → IsInMemory w.top address 4 → line_at w address ≡ l → l < lines w
+pub line_below : (w : Config) (address l : ℕ) → IsInMemory w.top address 4 → line_at w address ≡ l → l < lines w
 line_below w address l i e =
     let pages = w.top.memory_in_pages in
     let above = i.above in
     let below = i.below in
     omega arith
 
-first_line : (w : Config) → 0 < lines w
+pub first_line : (w : Config) → 0 < lines w
 first_line w = let some = w.top.memory_in_range in omega arith
 
-commit_line : (w : Config) (log : List Event) (m : Machine) (c : ℕ) (h : HartId) (n v : ℕ) (k : LineId) → Reaches w log m → CommitFits w c h.0 n k.0 v (m.parts c) → k.0 < lines w
+pub commit_line : (w : Config) (log : List Event) (m : Machine) (c : ℕ) (h : HartId) (n v : ℕ) (k : LineId) → Reaches w log m → CommitFits w c h.0 n k.0 v (m.parts c) → k.0 < lines w
 commit_line w log m c h n v k r g =
     let listed = subst (λ z. IsListed w log h.0 ((m.parts z).harts h.0)) g.mine ((each_reached w log m 0 (first_line w) r).listed h.0) in
     let first = (subst (AllStored w log h.0) g.buffer listed.waiting).0 in
     line_below w first.access.word.0 k.0 first.writes.inside (ap (λ z. line_at w z.word.0) first.entry ∙ g.line)
 
 -- the version that a hart in state M writes over
-current_version : (w : Config) (log : List Event) (m : Machine) (c h l : ℕ) → l < lines w → Reaches w log m → in_m h ((m.parts c).cells l).copy ≡ true
+pub current_version : (w : Config) (log : List Event) (m : Machine) (c h l : ℕ) → l < lines w → Reaches w log m → in_m h ((m.parts c).cells l).copy ≡ true
     → (content ((m.parts c).cells l).copy).version ≡ version_of log l
 current_version w log m c h l i r owner = owner_version ((m.parts c).cells l).copy h (version_of log l) owner (λ hs o d is. ((runs_keep_lines w log m l i r).token.owner c hs o d is).version)
 
-next_version : (w : Config) (log : List Event) (l v n : ℕ) → IsRun w log → v ≡ raised most n → n ≡ version_of log l → v ≡ version_of log l + 1
+pub next_version : (w : Config) (log : List Event) (l v n : ℕ) → IsRun w log → v ≡ raised most n → n ≡ version_of log l → v ≡ version_of log l + 1
 next_version w log l v n r e f = e ∙ ap (raised most) f ∙ raised_below (version_of log l) (below_greatest w log (line_id l) r)
 
 pub commit_numbered : (w : Config) (before rest : List Event) (e : Event) (h : HartId) (n : ℕ) (k : LineId) (v : ℕ)

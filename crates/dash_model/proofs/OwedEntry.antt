@@ -145,7 +145,7 @@ silent_off l f (TransferAck k) e = record { announces = refl; acknowledges = if_
 silent_off l f _ e = record { announces = refl; acknowledges = refl; commits = λ h v x. x; gives = λ g d n q. absurd (cc) }
 
 -- an acknowledgement finds an entry
-some_entry : (s : Slot) (n d h : ℕ) → Counted s NoAcks n d h → n ≡ 0
+pub some_entry : (s : Slot) (n d h : ℕ) → Counted s NoAcks n d h → n ≡ 0
 some_entry (Owns i t Asked) n d h k = absurd k
 some_entry (Owns i t Refused) n d h k = absurd k
 some_entry (Owns i t Poisoned) n d h k = absurd k

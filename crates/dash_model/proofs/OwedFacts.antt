@@ -111,7 +111,7 @@ with_if h x y ys true j e ih = or_same (x == h) (y == h) (member h ys) (ap (λ z
 with_if h x y ys false true e ih = refl
 with_if h x y ys false false e ih = ap (λ z. (y == h) || z) ih ∙ or_swap (y == h) (x == h) (member h ys)
 
-member_with : (h x : ℕ) (xs : List ℕ) → member h (with_member x xs) ≡ (x == h) || member h xs
+pub member_with : (h x : ℕ) (xs : List ℕ) → member h (with_member x xs) ≡ (x == h) || member h xs
 unfolding with_member member
 member_with h x [] = refl
 member_with h x (y ∷ ys) = with_if h x y ys (y == x) (nat_lt x y) refl (member_with h x ys)

@@ -103,7 +103,7 @@ counting_owns (Reads i t p) n d h g o k = absurd k
 counting_owns NoSlot n d h g o k = absurd k
 
 -- an owner's entry knows its number
-owner_told : (h : ℕ) (w : Config) (c l : ℕ) (m : Machine) (pl : Place) (i : ℕ) → Facts h (along w l m) pl c → Alone ((m.parts c).cells l) → in_m i ((m.parts c).cells l).copy ≡ true → (g : ℕ) (o : List ℕ) → ((m.parts c).cells l).acks ≡ Counting g o → ⊥
+pub owner_told : (h : ℕ) (w : Config) (c l : ℕ) (m : Machine) (pl : Place) (i : ℕ) → Facts h (along w l m) pl c → Alone ((m.parts c).cells l) → in_m i ((m.parts c).cells l).copy ≡ true → (g : ℕ) (o : List ℕ) → ((m.parts c).cells l).acks ≡ Counting g o → ⊥
 owner_told h w c l m pl i f k e g o is =
     let s = along w l m in
     let one = m_owned i ((m.parts c).cells l).copy e in

@@ -110,7 +110,7 @@ one_holder (Back o) c k e f = absurd (omega arith)
 one_holder (At o) c k e f = grind (arith, nat_tests)
 one_holder (Moving o r) c k e f = grind (arith, nat_tests)
 
-holds_most : (p : Place) (k : ℕ) → holds p k ≤ 1
+pub holds_most : (p : Place) (k : ℕ) → holds p k ≤ 1
 holds_most AtHome k = omega arith
 holds_most (Back o) k = omega arith
 holds_most (At o) k = grind (arith, nat_tests)
@@ -124,7 +124,7 @@ knows_holds (Owns i t (Came y)) n g o x d h k = k.3
 knows_holds (Reads i t p) n g o x d h k = k.3
 knows_holds NoSlot n g o x d h k = k.3
 
-has_token : (h c : ℕ) (s : State) (p : Place) → Facts h s p c → Knows (s.cells c).acks → holds p c ≡ 1
+pub has_token : (h c : ℕ) (s : State) (p : Place) → Facts h s p c → Knows (s.cells c).acks → holds p c ≡ 1
 has_token h c s p f k = knows_holds (s.cells c).slot k.expected k.got k.owed (counting c s) (weigh (counts_to c) s.net) (holds p c) (subst (λ a. Counted (s.cells c).slot a (counting c s) (weigh (counts_to c) s.net) (holds p c)) k.is f.counts)
 
 next_owned : (d : Line) (c : Copy) → IsNext d c → owned c ≡ 1
@@ -147,7 +147,7 @@ others_rest w l c k v m y h knows may off t d is =
 stays_hidden : (w : Config) (l c n : ℕ) (v : Line) (m : Machine) (g : Step) → Holds w l v m → Knows (cell_at l m c).acks → LineStep w l m g → Everywhere (AtMost n) (hide c (along w l m)) → Everywhere (AtMost n) (hide c (along w l (after w m g)))
 stays_hidden w l c n v m g h k (Rests e) old = subst (λ s. Everywhere (AtMost n) (hide c s)) (sym e) old
 stays_hidden w l c n v m g h k (Does_act a may e) old = subst (λ s. Everywhere (AtMost n) (hide c s)) (sym e) (act_hidden (AtMost n) (at w l) (along w l m) c g.event.stamp g.event.cluster.0 a (knows_some (cell_at l m c).acks k) may (others_rest w l c g.event.cluster.0 v m a h k may) old)
-stays_hidden w l c n v m g h k (Takes_one f x first e) old = subst (λ s. Everywhere (AtMost n) (hide c s)) (sym e) (take_hidden (AtMost n) (at w l) (along w l m) c g.event.stamp g.event.cluster.0 f.0 g.stamp x (knows_some (cell_at l m c).acks k) first old)
+stays_hidden w l c n v m g h k (Takes_one f x of first e) old = subst (λ s. Everywhere (AtMost n) (hide c s)) (sym e) (take_hidden (AtMost n) (at w l) (along w l m) c g.event.stamp g.event.cluster.0 f.0 g.stamp x (knows_some (cell_at l m c).acks k) first old)
 
 keeps_on : (w : Config) (log : List Event) (l c : ℕ) (v : Line) (m : Machine) (g : Step) → l < lines w → CanHappen w m g → Holds w l v m → Knows (cell_at l m c).acks → (Gives g.event (cluster_id c) (line_id l) → ⊥) → Keeps w log l c m → Keeps w (log ++ g.event ∷ []) l c (after w m g)
 keeps_on w log l c v m g low can h k none old =

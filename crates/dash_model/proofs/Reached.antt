@@ -1,9 +1,12 @@
 -- Every run keeps the invariant of each line of memory, with the content that the log tells.
 use Rattle.std.proofs.Common.{◌≡◌, ℕ, ◌+◌, ◌≤◌, ◌<◌, true, cond, None, Some, List, [], ◌∷◌, ◌++◌, length, map, append-nil, refl, sym, ap, ◌∙◌, subst, inl, inr, arith}
+use Rattle.std.proofs.lemmas.Bool.Decides.{nat_tests}
 use Rattle.std.proofs.lemmas.Grind.{flat_map-append}
 use Rattle.std.proofs.lemmas.List.{append_assoc, length-append}
 use Rattle.dash_base.specs.declared.line.Line.{Line}
 use Rattle.dash_event.specs.declared.event.Event.{Event}
+use Rattle.dash_event.specs.declared.event.Kind.{Kind}
+use Rattle.dash_event.specs.declared.event.Kind.TheVariants as kind
 use Rattle.dash_model.specs.Maps.{weigh, most}
 use Rattle.dash_model.specs.Config.{Config, line_id, lines, home_of, opening_line}
 use Rattle.dash_model.specs.Cell.{Copy, NoCopy, Held}
@@ -85,7 +88,7 @@ step_at w log l m g i low can k =
     }
 
 -- a log has no fewer commits than its beginning
-version_first : (xs ys : List Event) (l : ℕ) → version_of xs l ≤ version_of (xs ++ ys) l
+pub version_first : (xs ys : List Event) (l : ℕ) → version_of xs l ≤ version_of (xs ++ ys) l
 version_first xs ys l =
     let sum : version_of (xs ++ ys) l ≡ version_of xs l + version_of ys l = ap length (flat_map-append (λ e. commit_in (line_id l) e.kind) xs ys) ∙ length-append (commits_of xs (line_id l)) (commits_of ys (line_id l)) in
     omega arith
@@ -103,3 +106,17 @@ each_reached w log m l i r =
     let less = below_greatest w log (line_id l) r.run in
     let low : version_of (map event_of r.run.steps) l ≤ most = subst (λ es. version_of es l ≤ most) (sym r.run.events) (omega arith) in
     subst (IsAt w log l) (sym r.state) (subst (λ es. IsAt w es l (state_after w (opening w) r.run.steps)) r.run.events (steps_at w [] l (opening w) r.run.steps i low r.run.happen (opening_at w l)))
+
+-- an event commits a line at most once
+few_commits : (l : ℕ) (e : Kind) → length (commit_in (line_id l) e ++ []) ≤ 1
+few_commits l (kind.Commit h n k v) = grind (arith, nat_tests)
+few_commits l (kind.Rmw a k v) = grind (arith, nat_tests)
+few_commits l _ = omega arith
+
+-- and after one more step
+pub next_reached : (w : Config) (log : List Event) (m : Machine) (g : Step) (l : ℕ) → l < lines w → Reaches w log m → CanHappen w m g → IsAt w (log ++ g.event ∷ []) l (after w m g)
+next_reached w log m g l i r can =
+    let less = below_greatest w log (line_id l) r.run in
+    let few = few_commits l g.event.kind in
+    let sum : version_of (log ++ g.event ∷ []) l ≡ version_of log l + version_of (g.event ∷ []) l = ap length (flat_map-append (λ e. commit_in (line_id l) e.kind) log (g.event ∷ [])) ∙ length-append (commits_of log (line_id l)) (commits_of (g.event ∷ []) (line_id l)) in
+    step_at w log l m g i (omega arith) can (each_reached w log m l i r)

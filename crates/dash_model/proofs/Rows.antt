@@ -1,5 +1,5 @@
 -- Each row keeps the facts of its line, its coverage and its contents.
-use Rattle.std.proofs.Common.{◌≡◌, ℕ, ◌≤◌, Some, List, [], ◌∷◌, ◌++◌, length, refl, ap, ap₂, arith}
+use Rattle.std.proofs.Common.{◌≡◌, ℕ, ◌≤◌, Some, List, [], ◌∷◌, ◌++◌, length, refl, ap, ap₂, ◌∙◌, arith}
 use Rattle.std.proofs.lemmas.Bool.Decides.{nat_tests}
 use Rattle.dash_base.specs.declared.line.Line.{Line}
 use Rattle.dash_base.specs.declared.id.LineId.{LineId}
@@ -21,8 +21,8 @@ use Rattle.dash_model.proofs.Weigh.{cut, sends, weigh-only}
 use Rattle.dash_model.proofs.Bursts.{bursts, vbursts, invals_at-burst}
 use Rattle.dash_model.proofs.Members.{member-with, member-still, member_self}
 use Rattle.dash_model.proofs.Steps.{Keeps, KeepsBy, KeepsByTwo}
-use Rattle.dash_model.proofs.Contents.{old_datas_only}
-use Rattle.dash_model.proofs.Facts.{Place, AtHome, At, Back, Moving, Facts, Cover, old_datas}
+use Rattle.dash_model.proofs.Contents.{datas_weight_only, home_weighs, owner_current}
+use Rattle.dash_model.proofs.Facts.{Place, AtHome, At, Back, Moving, Facts, Cover, came_off, datas_weight, NoneToRead, other}
 
 brings_counts_msg : (x a b : ℕ) (m : Msg) → brings_msg x a b m ≡ 0 → counts_to_msg x a b m ≡ 0
 brings_counts_msg x a b (DataEx l d n) e = grind (arith, nat_tests)
@@ -69,13 +69,15 @@ module _ (w : Where) (m : Line) (s : State) (p : Place) (i c : ℕ) where
     facts = λ x k. grind (arith, nat_tests, sends);
     covered = λ x k y. grind (arith, nat_tests, sends);
     contents = λ x k v. grind (arith, nat_tests, sends);
+    reading = λ b z x k y. grind (arith, nat_tests, sends);
   }
 
   pub ask_read : (n t : ℕ) → MayAct (AskRead n t) (s.cells c) → KeepsBy w.home m s p (after w s (Acts i c (AskRead n t))) p c
   ask_read n t may = record {
     facts = λ x k kc. grind (arith, nat_tests, sends);
     covered = λ x k kc y. grind (arith, nat_tests, sends);
-    contents = λ x k kc v vc. let none = weigh-only (datas c) (old_datas m c) (old_datas_only m c) s.net in grind (arith, nat_tests, sends);
+    contents = λ x k kc v vc. let none = weigh-only (datas c) (datas_weight (other m) c) (datas_weight_only (other m) c) s.net in grind (arith, nat_tests, sends);
+    reading = λ b z x k kc vc y. let none = weigh-only (datas c) (datas_weight b c) (datas_weight_only b c) s.net in grind (arith, nat_tests, sends);
   }
 
   pub ask_own : (n t : ℕ) → MayAct (AskOwn n t) (s.cells c) → KeepsBy w.home m s p (after w s (Acts i c (AskOwn n t))) p c
@@ -83,13 +85,15 @@ module _ (w : Where) (m : Line) (s : State) (p : Place) (i c : ℕ) where
     facts = λ x k kc. grind (arith, nat_tests, sends);
     covered = λ x k kc y. grind (arith, nat_tests, sends);
     contents = λ x k kc v vc. grind (arith, nat_tests, sends);
+    reading = λ b z x k kc vc y. grind (arith, nat_tests, sends);
   }
 
   pub again : KeepsBy w.home m s p (after w s (Acts i c Again)) p c
   again = record {
     facts = λ x k kc. again_by w s p i c x (s.cells c).slot refl k kc;
     covered = λ x k kc y. grind (arith, nat_tests, sends);
-    contents = λ x k kc v vc. let none = weigh-only (datas c) (old_datas m c) (old_datas_only m c) s.net in grind (arith, nat_tests, sends);
+    contents = λ x k kc v vc. let none = weigh-only (datas c) (datas_weight (other m) c) (datas_weight_only (other m) c) s.net in grind (arith, nat_tests, sends);
+    reading = λ b z x k kc vc y. let none = weigh-only (datas c) (datas_weight b c) (datas_weight_only b c) s.net in grind (arith, nat_tests, sends);
   }
 
   pub install : KeepsBy w.home m s p (after w s (Acts i c Install)) p c
@@ -97,6 +101,7 @@ module _ (w : Where) (m : Line) (s : State) (p : Place) (i c : ℕ) where
     facts = λ x k kc. install_by w s p i c x (s.cells c).slot refl k kc;
     covered = λ x k kc y. grind (arith, nat_tests, sends);
     contents = λ x k kc v vc. grind (arith, nat_tests, sends);
+    reading = λ b z x k kc vc y. grind (arith, nat_tests, sends);
   }
 
   pub drop : (t : ℕ) → MayAct (Drop t) (s.cells c) → KeepsBy w.home m s p (after w s (Acts i c (Drop t))) p c
@@ -104,6 +109,7 @@ module _ (w : Where) (m : Line) (s : State) (p : Place) (i c : ℕ) where
     facts = λ x k kc. grind (arith, nat_tests, sends);
     covered = λ x k kc y. grind (arith, nat_tests, sends);
     contents = λ x k kc v vc. grind (arith, nat_tests, sends);
+    reading = λ b z x k kc vc y. grind (arith, nat_tests, sends);
   }
 
   pub bus_read : (t : ℕ) → KeepsBy w.home m s p (after w s (Acts i c (BusRead t))) p c
@@ -111,6 +117,7 @@ module _ (w : Where) (m : Line) (s : State) (p : Place) (i c : ℕ) where
     facts = λ x k kc. grind (arith, nat_tests, sends);
     covered = λ x k kc y. grind (arith, nat_tests, sends);
     contents = λ x k kc v vc. grind (arith, nat_tests, sends);
+    reading = λ b z x k kc vc y. grind (arith, nat_tests, sends);
   }
 
   pub bus_own : (t : ℕ) → KeepsBy w.home m s p (after w s (Acts i c (BusOwn t))) p c
@@ -118,6 +125,7 @@ module _ (w : Where) (m : Line) (s : State) (p : Place) (i c : ℕ) where
     facts = λ x k kc. grind (arith, nat_tests, sends);
     covered = λ x k kc y. grind (arith, nat_tests, sends);
     contents = λ x k kc v vc. grind (arith, nat_tests, sends);
+    reading = λ b z x k kc vc y. grind (arith, nat_tests, sends);
   }
 
   -- of a commit, which makes another content
@@ -126,6 +134,9 @@ module _ (w : Where) (m : Line) (s : State) (p : Place) (i c : ℕ) where
 
   pub commit_cover : (t x : ℕ) (d : Line) → Facts w.home s p x → Facts w.home s p c → Cover s p x → Cover (after w s (Acts i c (Commit t d))) p x
   commit_cover t x d k kc y = grind (arith, nat_tests, sends)
+
+  pub commit_reading : (t x : ℕ) (d : Line) (b : Line → ℕ) → NoneToRead b s x → NoneToRead b (after w s (Acts i c (Commit t d))) x
+  commit_reading t x d b y = grind (arith, nat_tests, sends)
 
 -- messages that come to a cluster
 module _ (w : Where) (m : Line) (s : State) (p : Place) (i c f u : ℕ) (l : LineId) where
@@ -136,6 +147,7 @@ module _ (w : Where) (m : Line) (s : State) (p : Place) (i c f u : ℕ) (l : Lin
         facts = λ x k kc. grind (arith, nat_tests, sends);
         covered = λ x k kc y. grind (arith, nat_tests, sends);
         contents = λ x k kc v vc. grind (arith, nat_tests, sends);
+        reading = λ b z x k kc vc y. grind (arith, nat_tests, sends);
       }
 
   pub ack : head f c Reply s.net ≡ Some (parcel f c (Ack l) u) → KeepsBy w.home m s p (after w s (Takes i c f (Ack l))) p c
@@ -145,6 +157,7 @@ module _ (w : Where) (m : Line) (s : State) (p : Place) (i c f u : ℕ) (l : Lin
         facts = λ x k kc. grind (arith, nat_tests, sends);
         covered = λ x k kc y. grind (arith, nat_tests, sends);
         contents = λ x k kc v vc. grind (arith, nat_tests, sends);
+        reading = λ b z x k kc vc y. grind (arith, nat_tests, sends);
       }
 
   pub transfer_ack : head f c Reply s.net ≡ Some (parcel f c (TransferAck l) u) → KeepsBy w.home m s p (after w s (Takes i c f (TransferAck l))) p c
@@ -154,6 +167,7 @@ module _ (w : Where) (m : Line) (s : State) (p : Place) (i c f u : ℕ) (l : Lin
         facts = λ x k kc. grind (arith, nat_tests, sends);
         covered = λ x k kc y. grind (arith, nat_tests, sends);
         contents = λ x k kc v vc. grind (arith, nat_tests, sends);
+        reading = λ b z x k kc vc y. grind (arith, nat_tests, sends);
       }
 
   pub inval : (r : ClusterId) → head f c Request s.net ≡ Some (parcel f c (Inval l r) u) → KeepsByTwo w.home m s p (after w s (Takes i c f (Inval l r))) p c r.0
@@ -163,6 +177,7 @@ module _ (w : Where) (m : Line) (s : State) (p : Place) (i c f u : ℕ) (l : Lin
         facts = λ x k kc kd. grind (arith, nat_tests, sends);
         covered = λ x k kc kd y. grind (arith, nat_tests, sends);
         contents = λ x k kc kd v vc vd. grind (arith, nat_tests, sends);
+        reading = λ b z x k kc kd vc y. grind (arith, nat_tests, sends);
       }
 
   pub nak : head f c Reply s.net ≡ Some (parcel f c (Nak l) u) → KeepsBy w.home m s p (after w s (Takes i c f (Nak l))) p c
@@ -172,6 +187,7 @@ module _ (w : Where) (m : Line) (s : State) (p : Place) (i c f u : ℕ) (l : Lin
         facts = λ x k kc. nak_by w s p i c x f u l (s.cells c).slot refl first k kc;
         covered = λ x k kc y. grind (arith, nat_tests, sends);
         contents = λ x k kc v vc. grind (arith, nat_tests, sends);
+        reading = λ b z x k kc vc y. grind (arith, nat_tests, sends);
       }
 
   pub data_ex : (d : Line) (n : ℕ) → head f c Reply s.net ≡ Some (parcel f c (DataEx l d n) u) → KeepsBy w.home m s p (after w s (Takes i c f (DataEx l d n))) p c
@@ -181,6 +197,7 @@ module _ (w : Where) (m : Line) (s : State) (p : Place) (i c f u : ℕ) (l : Lin
         facts = λ x k kc. let none = weigh-only (brings c) (counts_to c) (brings_counts c) (tail f c Reply s.net) in grind (arith, nat_tests, sends);
         covered = λ x k kc y. grind (arith, nat_tests, sends);
         contents = λ x k kc v vc. grind (arith, nat_tests, sends);
+        reading = λ b z x k kc vc y. grind (arith, nat_tests, sends);
       }
 
   -- a forward that is refused
@@ -191,6 +208,7 @@ module _ (w : Where) (m : Line) (s : State) (p : Place) (i c f u : ℕ) (l : Lin
         facts = λ x k kc. grind (arith, nat_tests, sends);
         covered = λ x k kc y. grind (arith, nat_tests, sends);
         contents = λ x k kc v vc. grind (arith, nat_tests, sends);
+        reading = λ b z x k kc vc y. grind (arith, nat_tests, sends);
       }
 
   pub fwd_read_ex_refused : (r : ClusterId) → head f c Request s.net ≡ Some (parcel f c (FwdReadEx l r) u) → KeepsBy w.home m s p (apply i c (record { cell = s.cells c; home = s.home; sent = to r.0 (Nak l) ∷ [] }) (tail f c Request s.net) s) p r.0
@@ -200,6 +218,7 @@ module _ (w : Where) (m : Line) (s : State) (p : Place) (i c f u : ℕ) (l : Lin
         facts = λ x k kc. grind (arith, nat_tests, sends);
         covered = λ x k kc y. grind (arith, nat_tests, sends);
         contents = λ x k kc v vc. grind (arith, nat_tests, sends);
+        reading = λ b z x k kc vc y. grind (arith, nat_tests, sends);
       }
 
 -- an owner gives the line back, gives a copy, or gives the line on
@@ -209,6 +228,7 @@ module _ (w : Where) (m : Line) (s : State) (i c : ℕ) (hs : List ℕ) (o : ℕ
     facts = λ x k kc. grind (arith, nat_tests, sends);
     covered = λ x k kc y. grind (arith, nat_tests, sends);
     contents = λ x k kc v vc. grind (arith, nat_tests, sends);
+    reading = λ b z x k kc vc y. grind (arith, nat_tests, sends);
   }
 
   pub fwd_read_given : (f u : ℕ) (l : LineId) (r : ClusterId) → head f c Request s.net ≡ Some (parcel f c (FwdRead l r) u) → KeepsByTwo w.home m s (At c) (apply i c (give_read l w.home r.0 (Held hs (Some o) d) NoAcks (s.cells c) s.home) (tail f c Request s.net) s) (Back c) c r.0
@@ -218,6 +238,7 @@ module _ (w : Where) (m : Line) (s : State) (i c : ℕ) (hs : List ℕ) (o : ℕ
         facts = λ x k kc kd. grind (arith, nat_tests, sends);
         covered = λ x k kc kd y. grind (arith, nat_tests, sends);
         contents = λ x k kc kd v vc vd. grind (arith, nat_tests, sends);
+        reading = λ b z x k kc kd vc y. let d0 : b d ≡ 0 = ap b (owner_current hs o d (s.cells c).copy m (came_off (s.cells c).slot m) owned vc.owner) ∙ z in grind (arith, nat_tests, sends);
       }
 
   pub fwd_read_ex_given : (f u : ℕ) (l : LineId) (r : ClusterId) → head f c Request s.net ≡ Some (parcel f c (FwdReadEx l r) u) → KeepsByTwo w.home m s (At c) (apply i c (give_own l w.home r.0 (Held hs (Some o) d) NoAcks (s.cells c) s.home) (tail f c Request s.net) s) (Moving c r.0) c r.0
@@ -227,6 +248,7 @@ module _ (w : Where) (m : Line) (s : State) (i c : ℕ) (hs : List ℕ) (o : ℕ
         facts = λ x k kc kd. let none = weigh-only (brings r.0) (counts_to r.0) (brings_counts r.0) s.net in grind (arith, nat_tests, sends);
         covered = λ x k kc kd y. grind (arith, nat_tests, sends);
         contents = λ x k kc kd v vc vd. grind (arith, nat_tests, sends);
+        reading = λ b z x k kc kd vc y. grind (arith, nat_tests, sends);
       }
 
 -- the home serves a request, or passes it on
@@ -240,6 +262,7 @@ module _ (w : Where) (m : Line) (s : State) (i f u : ℕ) (l : LineId) where
         facts = λ x k kc. grind (arith, nat_tests, sends);
         covered = λ x k kc y. grind (arith, nat_tests, sends);
         contents = λ x k kc v vc. grind (arith, nat_tests, sends);
+        reading = λ b z x k kc vc y. let m0 : b s.home.mem ≡ 0 = home_weighs b m s.home.mem AtHome z refl vc.mem in grind (arith, nat_tests, sends);
       }
 
   pub read_shared : (cs : List ℕ) → head f w.home Request s.net ≡ Some (parcel f w.home (Read l) u) → s.home.entry ≡ SharedBy cs → KeepsBy w.home m s AtHome (apply i w.home (record { cell = s.cells w.home; home = record s.home { entry = SharedBy (with_member f cs) }; sent = to f (Data l s.home.mem) ∷ [] }) (tail f w.home Request s.net) s) AtHome f
@@ -249,6 +272,7 @@ module _ (w : Where) (m : Line) (s : State) (i f u : ℕ) (l : LineId) where
         facts = λ x k kc. grind (arith, nat_tests, sends);
         covered = λ x k kc y. let here = member-with f cs in let there = member-still f x cs in grind (arith, nat_tests, sends);
         contents = λ x k kc v vc. grind (arith, nat_tests, sends);
+        reading = λ b z x k kc vc y. let m0 : b s.home.mem ≡ 0 = home_weighs b m s.home.mem AtHome z refl vc.mem in grind (arith, nat_tests, sends);
       }
 
   pub read_dirty : (p : Place) (o : ℕ) → head f w.home Request s.net ≡ Some (parcel f w.home (Read l) u) → Keeps w.home m s p (apply i w.home (record { cell = s.cells w.home; home = s.home; sent = to o (FwdRead l (cluster_id f)) ∷ [] }) (tail f w.home Request s.net) s) p
@@ -258,6 +282,7 @@ module _ (w : Where) (m : Line) (s : State) (i f u : ℕ) (l : LineId) where
         facts = λ x k. grind (arith, nat_tests, sends);
         covered = λ x k y. grind (arith, nat_tests, sends);
         contents = λ x k v. grind (arith, nat_tests, sends);
+        reading = λ b z x k y. grind (arith, nat_tests, sends);
       }
 
   pub own_uncached : head f w.home Request s.net ≡ Some (parcel f w.home (ReadEx l) u) → s.home.entry ≡ Uncached → KeepsBy w.home m s AtHome (apply i w.home (record { cell = s.cells w.home; home = record s.home { entry = Dirty f }; sent = to f (DataEx l s.home.mem 0) ∷ [] }) (tail f w.home Request s.net) s) (At f) f
@@ -267,6 +292,7 @@ module _ (w : Where) (m : Line) (s : State) (i f u : ℕ) (l : LineId) where
         facts = λ x k kc. let none = weigh-only (brings f) (counts_to f) (brings_counts f) s.net in grind (arith, nat_tests, sends);
         covered = λ x k kc y. grind (arith, nat_tests, sends);
         contents = λ x k kc v vc. grind (arith, nat_tests, sends);
+        reading = λ b z x k kc vc y. grind (arith, nat_tests, sends);
       }
 
   pub own_shared : (cs : List ℕ) → head f w.home Request s.net ≡ Some (parcel f w.home (ReadEx l) u) → s.home.entry ≡ SharedBy cs → KeepsBy w.home m s AtHome (apply i w.home (record { cell = s.cells w.home; home = record s.home { entry = Dirty f }; sent = invals_to l f (without f cs) ++ (to f (DataEx l s.home.mem (length (without f cs))) ∷ []) }) (tail f w.home Request s.net) s) (At f) f
@@ -276,6 +302,7 @@ module _ (w : Where) (m : Line) (s : State) (i f u : ℕ) (l : LineId) where
         facts = λ x k kc. let none = weigh-only (brings f) (counts_to f) (brings_counts f) s.net in record { requests = grind (arith, nat_tests, bursts); tokens = grind (arith, nat_tests, bursts); epoch = grind (arith, nat_tests, bursts); counts = grind (arith, nat_tests, bursts) };
         covered = λ x k kc y. let told = invals_at-burst x l i w.home f cs in grind (arith, nat_tests, bursts);
         contents = λ x k kc v vc. grind (arith, nat_tests, vbursts);
+        reading = λ b z x k kc vc y. grind (arith, nat_tests, vbursts);
       }
 
   pub own_dirty : (p : Place) (o : ℕ) → head f w.home Request s.net ≡ Some (parcel f w.home (ReadEx l) u) → Keeps w.home m s p (apply i w.home (record { cell = s.cells w.home; home = s.home; sent = to o (FwdReadEx l (cluster_id f)) ∷ [] }) (tail f w.home Request s.net) s) p
@@ -285,6 +312,7 @@ module _ (w : Where) (m : Line) (s : State) (i f u : ℕ) (l : LineId) where
         facts = λ x k. grind (arith, nat_tests, sends);
         covered = λ x k y. grind (arith, nat_tests, sends);
         contents = λ x k v. grind (arith, nat_tests, sends);
+        reading = λ b z x k y. grind (arith, nat_tests, sends);
       }
 
 -- the line comes back, or the home learns who has it
@@ -296,6 +324,7 @@ module _ (w : Where) (m : Line) (s : State) (i c f u : ℕ) (l : LineId) where
         facts = λ x k kc. grind (arith, nat_tests, sends);
         covered = λ x k kc y. grind (arith, nat_tests, sends);
         contents = λ x k kc v vc. grind (arith, nat_tests, sends);
+        reading = λ b z x k kc vc y. grind (arith, nat_tests, sends);
       }
 
   pub sharing_back : (d : Line) (r : ClusterId) → head f c Request s.net ≡ Some (parcel f c (SharingBack l d r) u) → KeepsBy w.home m s (Back f) (apply i c (record { cell = s.cells c; home = record { mem = d; entry = SharedBy (with_member f (r.0 ∷ [])) }; sent = [] }) (tail f c Request s.net) s) AtHome f
@@ -305,6 +334,7 @@ module _ (w : Where) (m : Line) (s : State) (i c f u : ℕ) (l : LineId) where
         facts = λ x k kc. grind (arith, nat_tests, sends);
         covered = λ x k kc y. let here = member-with f (r.0 ∷ []) in let there = member-still f r.0 (r.0 ∷ []) (member_self r.0) in grind (arith, nat_tests, sends);
         contents = λ x k kc v vc. grind (arith, nat_tests, sends);
+        reading = λ b z x k kc vc y. grind (arith, nat_tests, sends);
       }
 
   pub transfer : (r : ClusterId) → head f c Request s.net ≡ Some (parcel f c (Transfer l r) u) → KeepsByTwo w.home m s (Moving f r.0) (apply i c (record { cell = s.cells c; home = record s.home { entry = Dirty r.0 }; sent = to r.0 (TransferAck l) ∷ [] }) (tail f c Request s.net) s) (At r.0) f r.0
@@ -314,6 +344,7 @@ module _ (w : Where) (m : Line) (s : State) (i c f u : ℕ) (l : LineId) where
         facts = λ x k kc kd. grind (arith, nat_tests, sends);
         covered = λ x k kc kd y. grind (arith, nat_tests, sends);
         contents = λ x k kc kd v vc vd. grind (arith, nat_tests, sends);
+        reading = λ b z x k kc kd vc y. grind (arith, nat_tests, sends);
       }
 
 -- the place, where a cluster has an owner whose line is not pending

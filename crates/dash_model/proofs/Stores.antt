@@ -66,7 +66,7 @@ all_added : (w : Config) (log : List Event) (h : ℕ) (ss : List Stored) (s : St
 all_added w log h [] s k one = (one, tt)
 all_added w log h (x ∷ xs) s k one = (k.0, all_added w log h xs s k.1 one)
 
-stores_more : (log : List Event) (e : Event) (h n : ℕ) → stores_in (log ++ e ∷ []) h n ≡ stores_in log h n ++ store_in (hart_id h) n e.kind
+pub stores_more : (log : List Event) (e : Event) (h n : ℕ) → stores_in (log ++ e ∷ []) h n ≡ stores_in log h n ++ store_in (hart_id h) n e.kind
 stores_more log e h n = flat_map-append (λ e. store_in (hart_id h) n e.kind) log (e ∷ []) ∙ ap (λ xs. stores_in log h n ++ xs) (append-nil (store_in (hart_id h) n e.kind))
 
 -- a store writes a word of memory
@@ -76,7 +76,7 @@ store_access h number need a word mask value old ok is made =
     let same : unseen a ≡ unwrap_or (offered h number (needed.Store word mask value) old ok) (unseen a) = ap (λ z. unwrap_or z (unseen a)) now in
     (ap (λ z. is_of_memory z.op) same, ap (λ z. z.written) same)
 
-store_writes : (w : Config) (c : ℕ) (a : Access) (d : HartEffect) (p : Part) → Guard w c (kind.Store a) d p → IsWrite w a
+pub store_writes : (w : Config) (c : ℕ) (a : Access) (d : HartEffect) (p : Part) → Guard w c (kind.Store a) d p → IsWrite w a
 unfolding Guard
 store_writes w c a d p can =
     let made = store_access a.hart.0 (number_of a.hart.0 p) d.need a a.word a.mask can.value 0 false can.next.need_is can.access.made in
@@ -84,7 +84,7 @@ store_writes w c a d p can =
     record { of_memory = made.0; inside = subst (IsProper w.top) can.next.need_is inside; value = can.value; written = made.1 }
 
 -- a store has the number of its hart's last instruction
-store_number : (w : Config) (c : ℕ) (a : Access) (d : HartEffect) (p : Part) (h : ℕ) → Guard w c (kind.Store a) d p → h ≡ a.hart.0 → ((row w c (kind.Store a) d p).part.harts h).core.retired ≡ a.number
+pub store_number : (w : Config) (c : ℕ) (a : Access) (d : HartEffect) (p : Part) (h : ℕ) → Guard w c (kind.Store a) d p → h ≡ a.hart.0 → ((row w c (kind.Store a) d p).part.harts h).core.retired ≡ a.number
 unfolding row Guard
 store_number w c a d p h can same =
     let test : (h == a.hart.0) ≡ true = grind (arith, nat_tests) in
@@ -92,7 +92,7 @@ store_number w c a d p h can same =
     let number = number_is a.hart.0 (number_of a.hart.0 p) d.need a a.word a.mask can.value 0 false can.next.need_is can.access.made in
     ap (λ b. (cond b next (p.harts h)).core.retired) test ∙ store_retires w (p.harts a.hart.0).core d.next d.need (reply a.read a.written) a.word a.mask can.value can.next.need_is can.next.does ∙ sym number
 
-store_mine : (w : Config) (c : ℕ) (a : Access) (d : HartEffect) (p : Part) → Guard w c (kind.Store a) d p → cluster_of w a.hart.0 ≡ c
+pub store_mine : (w : Config) (c : ℕ) (a : Access) (d : HartEffect) (p : Part) → Guard w c (kind.Store a) d p → cluster_of w a.hart.0 ≡ c
 unfolding Guard
 store_mine w c a d p can = can.next.mine
 

@@ -115,3 +115,13 @@ fewer_wait w queues locks k low harts few none =
     let swapped = total_swap (λ i h. weigh (is_waiter h) (queues i)) locks (all_harts w) in
     let less = total_less (λ h. total (λ i. weigh (is_waiter h) (queues i)) locks) k (all_harts w) low few none in
     omega arith
+
+-- each term is at most the total
+pub term_le : (f : ℕ → ℕ) (i n : ℕ) → i < n → f i ≤ total f n
+unfolding total
+term_le f i zero l = absurd (omega arith)
+term_le f i (suc n) l =
+    elim (last_or_below i n l) [
+      | inl s ↦ (let a : f i ≡ f n = ap f s in omega arith)
+      | inr b ↦ (let rest = term_le f i n b in omega arith)
+    ]

@@ -35,6 +35,7 @@ pub mod OnLine
 pub mod LineFacts
 pub mod OwedFacts
 pub mod PendingFacts
+pub mod Settling
 pub mod BufferFacts
 pub mod MachineLaws
 pub mod ExampleLogs
@@ -47,3 +48,4 @@ pub mod TableLines
 pub mod TableHome
 pub mod TableMessages
 pub mod TableLocks
+pub mod RunLaws

@@ -8,6 +8,8 @@ ghost use Rattle.dash_model.specs.LockFacts.{MessagesAreInRange, LinesAreOfMemor
 ghost use Rattle.dash_model.specs.MachineLaws.{EventsFixEffects, LanesAreQueues, StepsChangeOnePart, StampsRise, CommitsAreNumbered, EventsHappen, LocalRunsGrow, MergesAreRuns};
 ghost use Rattle.dash_model.specs.OwedFacts.{RunsOweAsLogged};
 ghost use Rattle.dash_model.specs.PendingFacts.{PendingLinesAreKept};
+ghost use Rattle.dash_model.specs.RunLaws.{RunsAreAdmissible, RunsAreCoherent, RunsKeepReleases};
+ghost use Rattle.dash_model.specs.Settling.{WeightFalls};
 ghost use Rattle.dash_model.specs.TableAccesses.{RowsOfAccesses};
 ghost use Rattle.dash_model.specs.TableHarts.{RowsOfHarts};
 ghost use Rattle.dash_model.specs.TableHome.{RowsOfHome};
@@ -37,6 +39,28 @@ pub fn runs_owe_as_logged()
 /// a version that was committed after the cluster last took the line to own.
 pub fn pending_lines_are_kept()
     ensures { PendingLinesAreKept }
+{}
+
+/// Every run is coherent, whatever the image: the writes of each line, and of each lock word, stand in one
+/// order, in which each is seen as what it is, and which no hart sees backwards.
+pub fn runs_are_coherent()
+    ensures { RunsAreCoherent }
+{}
+
+/// Every run keeps the release rule, whatever the image. A release finds its hart's earlier stores
+/// committed, and no acknowledgement owed to the hart; and from then on no one is shown an older version
+/// of a line than those that the hart committed before it. What an atomic operation commits, all later
+/// accesses see.
+pub fn runs_keep_releases()
+    ensures { RunsKeepReleases }
+{}
+
+/// Every run leaves an admissible log, whatever the image. Each hart's events are its own instructions, one
+/// after another, each answered as its event says. The log is coherent and keeps the release rule. An SC
+/// succeeds only where the hart's last LR reserved its word, and no other hart has committed a write of the
+/// word since. A lock word is freed only for an Unlock that was sent.
+pub fn runs_are_admissible()
+    ensures { RunsAreAdmissible }
 {}
 
 /// In every run the stores of a hart are those that the log commits, in the order of their commits, and
@@ -83,6 +107,14 @@ pub fn locks_are_counted()
 /// In a run each access of a lock word that is granted or freed is shown how many were before it.
 pub fn lock_uses_are_numbered()
     ensures { LockUsesAreNumbered }
+{}
+
+/// In every run each message that is taken, each Unlock that is served, each grant of a lock word, each line
+/// that is installed, and each eviction of what is in the way of a line that came lowers the weight of the
+/// machine. None of them asks for a line: no message that asks for one is sent, and no slot asks that had not
+/// asked before, so a refused one does not ask again.
+pub fn weight_falls()
+    ensures { WeightFalls }
 {}
 
 /// Each event fixes its effect: what its fields leave out makes no difference.

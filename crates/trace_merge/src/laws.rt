@@ -1,5 +1,5 @@
 //! Laws of logs. The functions do nothing: their contracts are the laws.
-ghost use Rattle.trace_merge.specs.OrderLaws.{CommitOrder, OneHartIsInOrder, ConsoleIsTheRuns};
+ghost use Rattle.trace_merge.specs.OrderLaws.{CommitOrder, ConsoleIsTheRuns, OneHartIsInOrder, RunsAreSequential};
 ghost use Rattle.trace_merge.specs.WrittenLogs.{ForwardingIsAdmissible, MessageIsAdmissible, MessageIsProperlyLabelled, MessageIsInOrder};
 
 /// Where no sequential run of an image has a data race, the records of every admissible log, each at its
@@ -7,6 +7,13 @@ ghost use Rattle.trace_merge.specs.WrittenLogs.{ForwardingIsAdmissible, MessageI
 /// that are free of data races see sequential consistency.
 pub fn commit_order()
     ensures { CommitOrder }
+{}
+
+/// Where an image is properly labelled for a topology, every run of the machine of caches, messages and
+/// write buffers has its records, each at its order point, in the order of one sequentially consistent
+/// run within the budgets, value for value.
+pub fn runs_are_sequential()
+    ensures { RunsAreSequential }
 {}
 
 /// On a machine of one hart the records of every admissible log are a sequential run, whatever the image.
