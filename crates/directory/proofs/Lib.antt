@@ -4,3 +4,4 @@ pub mod AtStart
 pub mod Invalidated
 pub mod Serving
 pub mod Lawful
+pub mod LawsOffered

@@ -1,5 +1,5 @@
 -- A line's copy, from bits to lists: holders, the owner, and what is left of them.
-use Rattle.std.proofs.Common.{◌≡◌, ◌≢◌, ℕ, ◌+◌, ◌-◌, ◌*◌, ◌<◌, ◌≤◌, ◌==◌, ◌&&◌, ◌||◌, Bool, true, false, cond, not, Option, None, Some, List, [], ◌∷◌, refl, sym, ap, ap₂, ◌∙◌, subst, is_some, nat_lt, arith}
+use Rattle.std.proofs.Common.{◌≡◌, ℕ, ◌-◌, ◌*◌, ◌<◌, ◌==◌, ◌&&◌, ◌||◌, Bool, true, false, Option, None, Some, List, [], ◌∷◌, refl, sym, ap, ap₂, ◌∙◌, is_some, nat_lt, arith}
 use Rattle.std.proofs.lemmas.Bool.Decides.{nat_tests}
 use Rattle.dash_base.specs.declared.line.Line.{Line}
 use Rattle.snoop_bus.specs.Holding.{Holding, has_hart, alone, with_hart, holders_in, owner_in, IsProperHolding}
@@ -7,11 +7,10 @@ use Rattle.snoop_bus.specs.Holding as bus
 use Rattle.snoop_bus.proofs.LawsOffered.{has_hart-alone, has_hart-with_hart, has_hart-zero, same_holders}
 use Rattle.dash_model.specs.Maps.{member, with_member}
 use Rattle.dash_model.specs.Config.{Config}
-use Rattle.dash_model.specs.Cell.{Copy, NoCopy, Held}
+use Rattle.dash_model.specs.Cell.{Held}
 use Rattle.dash_model.specs.LineEffect.{has_copy, has_owner, is_owner}
 use Rattle.dash_model.specs.Words.{held_by, in_m}
 use Rattle.unit_rows.specs.Shown.{hart_at, harts_by, owner_by, copy_by}
-use Rattle.unit_rows.specs.Lists.{picked}
 use Rattle.unit_rows.proofs.Same.{test_same}
 use Rattle.unit_rows.proofs.Lists.{picked-same, picked-alone, member-picked, with_member-picked}
 

@@ -3,3 +3,5 @@ pub mod Lists
 pub mod Copies
 pub mod Lines
 pub mod Harts
+pub mod Locals
+pub mod Openings

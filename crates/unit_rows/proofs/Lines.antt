@@ -1,5 +1,5 @@
 -- A row of one line: where the new parts have of the line what the row leaves, and all else is as it was, they show what the row makes.
-use Rattle.std.proofs.Common.{◌≡◌, ◌≢◌, ℕ, ◌<◌, true, List, slice_index_or, refl, sym, ap, ◌∙◌, subst}
+use Rattle.std.proofs.Common.{◌≡◌, ◌≢◌, ℕ, ◌<◌, true, slice_index_or, sym, ap, ◌∙◌, subst}
 use Rattle.snoop_bus.specs.View.{holding_at}
 use Rattle.ack_counter.specs.View.{entry_at}
 use Rattle.directory.specs.View.{is_home, kept_at}

@@ -1,7 +1,6 @@
 -- What a unit may do next, and which events do it.
 use Rattle.std.specs.Prelude.{◌≡◌, ℕ}
 use Rattle.dash_msg.specs.Classes.{class_of}
-use Rattle.dash_msg.specs.declared.msg.Msg.TheVariants.{Unlock}
 use Rattle.dash_msg.specs.declared.classes.Class.TheVariants.{Request}
 use Rattle.dash_event.specs.declared.event.Kind.{Kind}
 use Rattle.dash_event.specs.declared.event.Kind.TheVariants as kind

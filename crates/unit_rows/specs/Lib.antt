@@ -2,3 +2,5 @@ pub mod Lists
 pub mod Shown
 pub mod Choices
 pub mod Rows
+pub mod Local
+pub mod Opening

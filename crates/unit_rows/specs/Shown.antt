@@ -1,9 +1,7 @@
 -- What the parts of a unit show of its cluster's part of the machine.
-use Rattle.std.specs.Prelude.{◌≡◌, ℕ, ◌+◌, ◌-◌, ◌*◌, ◌/◌, ◌<◌, ◌%◌, Bool, true, cond, Option, Some, None, List, length, map, slice_index_or, option_map}
+use Rattle.std.specs.Prelude.{◌≡◌, ℕ, ◌+◌, ◌-◌, ◌*◌, ◌<◌, ◌%◌, Bool, true, cond, Option, Some, None, List, length, map, slice_index_or}
 use Rattle.dash_base.specs.declared.id.WordAddr.{WordAddr}
-use Rattle.dash_base.specs.declared.topology.Topology.{Topology}
 use Rattle.dash_base.specs.Places.{line_count}
-use Rattle.elf_load.specs.Image.{ImageView}
 use Rattle.snoop_bus.specs.Holding.{Holding, has_hart}
 use Rattle.snoop_bus.specs.View.{BusView, holding_at, in_hart_l1, harts as bus_harts}
 use Rattle.remote_cache.specs.View.{SlotsView, slot_at, slot_of, count as slot_count}
