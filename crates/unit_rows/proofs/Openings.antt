@@ -57,7 +57,7 @@ lock_opening w c v i o own = ap lock_in (o.words_are i ∙ ap (λ b. if b then S
 
 pub opening_shows : (w : Config) (c : ℕ) (v : PartsView) → IsOpening w c v → Shows w c v (opening_part w)
 opening_shows w c v o = record {
-  harts = λ k d low. shows_local w c k (slice_index_or v.locals k d) v.bus o.bus (o.locals k d low);
+  harts = λ k d low. shows_local w c k (slice_index_or v.locals k d) v.bus o.bus (o.locals.each k d low);
   copies = λ l. sym (ap (copy_by w c) (ap (λ b. holding_at b l) o.bus ∙ holding_at-empty_bus w.top.harts w.top.l1 w.top.l2 l));
   slots = λ l. sym (ap (λ s. slot_on w c s l) o.slots ∙ no_slot w c w.top.harts (first_prefetch w.top.harts + w.top.prefetch) l);
   acks = λ l. sym (ap (acks_by w c) (ap (λ t. entry_at t l) o.acks ∙ entry_at-empty_table w.top.acks l));
