@@ -5,3 +5,6 @@ pub mod Lines
 pub mod Harts
 pub mod Locals
 pub mod Openings
+pub mod LineTakes
+pub mod HomeRows
+pub mod Homes

@@ -9,4 +9,5 @@ pub use site::Site;
 
 mod choice;
 mod parts;
+mod served;
 mod site;
