@@ -8,3 +8,4 @@ pub mod Openings
 pub mod LineTakes
 pub mod HomeRows
 pub mod Homes
+pub mod LockWords

@@ -5,3 +5,4 @@ pub mod Rows
 pub mod Local
 pub mod Opening
 pub mod Takes
+pub mod LockWords

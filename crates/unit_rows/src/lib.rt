@@ -8,6 +8,7 @@ pub use parts::{Local, Parts};
 pub use site::Site;
 
 mod choice;
+mod lock_words;
 mod parts;
 mod served;
 mod site;
