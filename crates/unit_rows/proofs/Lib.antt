@@ -9,3 +9,4 @@ pub mod LineTakes
 pub mod HomeRows
 pub mod Homes
 pub mod LockWords
+pub mod AcksRoom
