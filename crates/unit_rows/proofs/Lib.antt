@@ -5,3 +5,4 @@ pub mod Lines
 pub mod Harts
 pub mod Locals
 pub mod Openings
+pub mod Swept
