@@ -6,3 +6,6 @@ pub mod Harts
 pub mod Locals
 pub mod Openings
 pub mod Swept
+pub mod BusTurns
+pub mod SlotsOn
+pub mod AcksOn
