@@ -10,3 +10,7 @@ pub mod HomeRows
 pub mod Homes
 pub mod LockWords
 pub mod AcksRoom
+pub mod Swept
+pub mod BusTurns
+pub mod SlotsOn
+pub mod AcksOn
