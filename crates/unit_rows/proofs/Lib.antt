@@ -14,3 +14,4 @@ pub mod Swept
 pub mod BusTurns
 pub mod SlotsOn
 pub mod AcksOn
+pub mod LockAnswers

@@ -97,22 +97,24 @@ takes_line w c from m l v z sent e on = record {
   does = record { done = idle w; happens = λ p shows. at_part w c from m l v z sent p e shows (on p shows) };
 }
 
--- where no case applies the message only leaves its lane
-passes : (w : Config) (c : ℕ) (from : ClusterId) (m : Msg) (v : PartsView) (p : Part) → Shows w c v p → TakeFits w c m (idle w) p → applies w c m p ≡ false → Happens w c (kind.Take from m) (idle w) v [] p
+-- where its row changes nothing the message only leaves its lane
+passes : (w : Config) (c : ℕ) (from : ClusterId) (m : Msg) (v : PartsView) (p : Part) → Shows w c v p → TakeFits w c m (idle w) p → msg_row_if (applies w c m p) w c from.0 m (idle w) p ≡ quiet p → Happens w c (kind.Take from m) (idle w) v [] p
 unfolding Guard row
-passes w c from m v p shows fits none =
-    let row_is : msg_row_if (applies w c m p) w c from.0 m (idle w) p ≡ quiet p = ap (λ b. msg_row_if b w c from.0 m (idle w) p) none in
-    record {
-      guard = fits;
-      shows = subst (λ (x : PartEffect). Shows w c v x.part) (sym row_is) shows;
-      sent_is = ap (λ (x : PartEffect). x.sent) row_is;
-    }
-
-pub takes_nothing : (w : Config) (c : ℕ) (from : ClusterId) (m : Msg) (v : PartsView) → ((p : Part) → Shows w c v p → TakeFits w c m (idle w) p) → ((p : Part) → Shows w c v p → applies w c m p ≡ false) → Takes w c from m v v []
-takes_nothing w c from m v fits none = record {
-  is_of = (refl, refl);
-  does = record { done = idle w; happens = λ p shows. passes w c from m v p shows (fits p shows) (none p shows) };
+passes w c from m v p shows fits row_is = record {
+  guard = fits;
+  shows = subst (λ (x : PartEffect). Shows w c v x.part) (sym row_is) shows;
+  sent_is = ap (λ (x : PartEffect). x.sent) row_is;
 }
+
+pub takes_still : (w : Config) (c : ℕ) (from : ClusterId) (m : Msg) (v : PartsView) → ((p : Part) → Shows w c v p → TakeFits w c m (idle w) p) → ((p : Part) → Shows w c v p → msg_row_if (applies w c m p) w c from.0 m (idle w) p ≡ quiet p) → Takes w c from m v v []
+takes_still w c from m v fits stays = record {
+  is_of = (refl, refl);
+  does = record { done = idle w; happens = λ p shows. passes w c from m v p shows (fits p shows) (stays p shows) };
+}
+
+-- as where no case applies
+pub takes_nothing : (w : Config) (c : ℕ) (from : ClusterId) (m : Msg) (v : PartsView) → ((p : Part) → Shows w c v p → TakeFits w c m (idle w) p) → ((p : Part) → Shows w c v p → applies w c m p ≡ false) → Takes w c from m v v []
+takes_nothing w c from m v fits none = takes_still w c from m v fits (λ p shows. ap (λ b. msg_row_if b w c from.0 m (idle w) p) (none p shows))
 
 pub takes_no_line : (w : Config) (c : ℕ) (from : ClusterId) (m : Msg) (l : LineId) (v : PartsView) → its_line m ≡ Some l → ((p : Part) → Shows w c v p → applies w c m p ≡ false) → Takes w c from m v v []
 takes_no_line w c from m l v e none = takes_nothing w c from m v (λ p shows. (on_its_line w c from.0 l m (idle w) p e).fits) none
