@@ -5,11 +5,13 @@
 #![tactic(auto)]
 
 pub use access::{Access, Op, Seen};
+pub use accesses::offer;
 pub use event::{Event, Kind};
 pub use logged::{EventLog, Logged};
 pub use step_record::StepRecord;
 
 mod access;
+mod accesses;
 mod event;
 mod logged;
 mod step_record;

@@ -15,5 +15,5 @@ mod done;
 mod driven;
 pub mod laws;
 mod machine;
-mod offer;
 mod opening;
+mod record;

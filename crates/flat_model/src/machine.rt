@@ -4,10 +4,10 @@ use crate::change::{
     can_succeed, finish, lock_index, memory_index, reserve, write_lock, write_word,
 };
 use crate::done::Done;
-use crate::offer::{answer_of, offer, record_of};
 use crate::opening::{opening_harts, opening_memory, opening_reservations};
+use crate::record::{answer_of, record_of};
 use dash_base::{OutOfMemory, Topology};
-use dash_event::StepRecord;
+use dash_event::{StepRecord, offer};
 use elf_load::Image;
 use hart_core::{Hart, HartId, Need};
 use std::alloc::Global;

@@ -5,3 +5,13 @@ pub mod Lines
 pub mod Harts
 pub mod Locals
 pub mod Openings
+pub mod LineTakes
+pub mod HomeRows
+pub mod Homes
+pub mod LockWords
+pub mod AcksRoom
+pub mod Swept
+pub mod BusTurns
+pub mod SlotsOn
+pub mod AcksOn
+pub mod LockAnswers

@@ -2,5 +2,8 @@ pub mod Lists
 pub mod Shown
 pub mod Choices
 pub mod Rows
+pub mod Sweeps
 pub mod Local
 pub mod Opening
+pub mod Takes
+pub mod LockWords

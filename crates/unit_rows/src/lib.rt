@@ -12,5 +12,7 @@ pub use site::Site;
 mod choice;
 mod hart_ids;
 mod opening;
+mod lock_words;
 mod parts;
+mod served;
 mod site;

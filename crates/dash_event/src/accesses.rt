@@ -1,12 +1,9 @@
-//! The access that an instruction makes, the record of a step, and the answer to its hart.
+//! The access that an instruction makes.
 ghost use Rattle.std.specs.Prelude.{◌≡◌, Some};
 ghost use Rattle.dash_event.specs.Offered.{bare_access, bytes_under, offered, rmw_access};
-ghost use Rattle.flat_model.specs.Step.{record_of};
-ghost use Rattle.dash_event.specs.Effects.{answer_of};
 
-use dash_base::{AmoOp, Labels, Mask, WordAddr, merge};
-use dash_event::{Access, Op, Seen, StepRecord};
-use hart_core::{HartId, Need};
+use crate::access::{Access, Op, Seen};
+use dash_base::{AmoOp, HartId, Labels, Mask, Need, WordAddr, merge};
 use rv32_alu::amo_value;
 
 /// The access of the instruction of this number of a hart, where the hart needs this, `content` is
@@ -129,33 +126,5 @@ fn lock_access(bare: &Access, labels: Labels, read: u32, written: u32) -> Access
         read: Some(read),
         written: Some(written),
         ..*bare
-    }
-}
-
-/// The record of a step of a hart: its access, or the byte that it puts, or its end.
-pub fn record_of(hart: HartId, need: &Need, access: Option<Access>) -> StepRecord
-    ensures { result ≡ record_of hart.0 need.now access }
-{
-    match access {
-        Some(access) => StepRecord::Access { access },
-        None => match need {
-            Need::Put { byte } => StepRecord::Byte { hart, byte: *byte },
-            Need::Stop { end } => StepRecord::Stopped { hart, end: *end },
-            _ => StepRecord::Plain { hart },
-        },
-    }
-}
-
-/// What a step answers its hart: what it read; for an SC 0 where it wrote, and 1 where it did not.
-pub fn answer_of(did: &StepRecord) -> u32
-    ensures { result ≡ answer_of did.now }
-{
-    match did {
-        StepRecord::Access { access } => match (access.read, access.written) {
-            (Some(read), _) => read,
-            (None, Some(_)) => 0,
-            (None, None) => 1,
-        },
-        _ => 0,
     }
 }
