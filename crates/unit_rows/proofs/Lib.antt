@@ -6,3 +6,8 @@ pub mod Harts
 pub mod Locals
 pub mod Openings
 pub mod AcksRoom
+pub mod Retiring
+pub mod Drained
+pub mod StepTold
+pub mod PlainSteps
+pub mod LockSends

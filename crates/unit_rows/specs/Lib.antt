@@ -4,3 +4,4 @@ pub mod Choices
 pub mod Rows
 pub mod Local
 pub mod Opening
+pub mod Steps

@@ -8,5 +8,7 @@ pub use parts::{Local, Parts};
 pub use site::Site;
 
 mod choice;
+mod instructions;
+mod lock_instructions;
 mod parts;
 mod site;
