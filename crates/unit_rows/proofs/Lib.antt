@@ -15,3 +15,8 @@ pub mod BusTurns
 pub mod SlotsOn
 pub mod AcksOn
 pub mod LockAnswers
+pub mod Retiring
+pub mod Drained
+pub mod StepTold
+pub mod PlainSteps
+pub mod LockSends

@@ -7,3 +7,4 @@ pub mod Local
 pub mod Opening
 pub mod Takes
 pub mod LockWords
+pub mod Steps

@@ -13,6 +13,8 @@ mod choice;
 mod hart_ids;
 mod opening;
 mod lock_words;
+mod instructions;
+mod lock_instructions;
 mod parts;
 mod served;
 mod site;
