@@ -1,5 +1,5 @@
 -- A home that serves a message: its line turns as the row says, and what the home tells by `serves` is whether a case applies.
-use Rattle.std.proofs.Common.{◌≡◌, ◌≢◌, ℕ, ◌<◌, ◌==◌, ◌&&◌, Bool, true, false, cond, not, nat_lt, Option, Some, None, List, [], slice_index_or, refl, sym, ap, ap₂, ◌∙◌, subst, arith}
+use Rattle.std.proofs.Common.{◌≡◌, ℕ, ◌<◌, ◌==◌, ◌&&◌, Bool, true, false, cond, not, nat_lt, Option, Some, None, [], slice_index_or, refl, sym, ap, ap₂, ◌∙◌, subst, arith}
 use Rattle.std.proofs.lemmas.Bool.Decides.{nat_tests}
 use Rattle.dash_base.specs.declared.id.ClusterId.{ClusterId}
 use Rattle.dash_base.specs.declared.id.LineId.{LineId}
@@ -17,7 +17,6 @@ use Rattle.dash_model.specs.LineRows.{take_row}
 use Rattle.dash_model.specs.HartRows.{cleared, cleared_where_lost}
 use Rattle.dash_model.specs.Part.{Processor, Part}
 use Rattle.dash_model.specs.Ranges.{applies, at_home}
-use Rattle.unit_rows.specs.declared.parts.Local.{Local}
 use Rattle.unit_rows.specs.Shown.{PartsView, hart_at, home_by, ShowsHart, Shows, AreSized}
 use Rattle.unit_rows.specs.Takes.{Takes}
 use Rattle.unit_rows.proofs.Same.{is_same}

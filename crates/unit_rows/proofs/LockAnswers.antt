@@ -1,18 +1,17 @@
 -- The answers to lock instructions: a hart that waits for one does its instruction.
-use Rattle.std.proofs.Common.{◌≡◌, ◌≢◌, ℕ, ◌+◌, ◌*◌, ◌/◌, ◌%◌, ◌<◌, ◌==◌, ◌&&◌, Bool, true, false, cond, nat_lt, Option, Some, None, [], length, slice_index_or, slice_set, refl, sym, ap, ap₂, ◌∙◌, subst, inl, inr, mod-lt, arith}
+use Rattle.std.proofs.Common.{◌≡◌, ℕ, ◌+◌, ◌*◌, ◌%◌, ◌<◌, ◌&&◌, Bool, true, false, cond, Option, Some, None, [], slice_index_or, slice_set, refl, sym, ap, ap₂, ◌∙◌, subst, inl, inr, mod-lt}
 use Rattle.std.proofs.lemmas.Nat.{div-add-mod'}
-use Rattle.std.proofs.lemmas.Bool.Decides.{nat_tests}
 use Rattle.std.proofs.Math.ListN.{length-set}
 use Rattle.std.proofs.lemmas.List.{get_or_read, get_or-set_same, get_or-set_other}
 use Rattle.dash_base.specs.declared.id.ClusterId.{ClusterId}
 use Rattle.dash_base.specs.declared.id.HartId.{HartId}
 use Rattle.dash_msg.specs.declared.msg.Msg.{Msg}
-use Rattle.dash_msg.specs.declared.msg.Msg.TheVariants.{Read, ReadEx, FwdRead, FwdReadEx, Inval, WriteBack, SharingBack, Transfer, LockAsk, Unlock, Data, DataEx, Ack, TransferAck, Nak, LockGrant, UnlockAck}
+use Rattle.dash_msg.specs.declared.msg.Msg.TheVariants.{LockGrant, UnlockAck}
 use Rattle.dash_event.specs.declared.event.Kind.TheVariants as kind
 use Rattle.hart_core.specs.HartState.{HartState}
 use Rattle.hart_core.specs.Meaning.{Does, IsFinished}
 use Rattle.dash_model.specs.Config.{Config, cluster_of}
-use Rattle.dash_model.specs.Part.{Processor, Part}
+use Rattle.dash_model.specs.Part.{Part}
 use Rattle.dash_model.specs.HartRows.{PartEffect, HartEffect, quiet, change}
 use Rattle.dash_model.specs.LockRows.{answered}
 use Rattle.dash_model.specs.Row.{msg_row, msg_row_if, row}

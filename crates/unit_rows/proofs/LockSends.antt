@@ -1,5 +1,5 @@
 -- Instructions that take or give back a lock word: the row of sending their messages, and when none is sent.
-use Rattle.std.proofs.Common.{◌≡◌, ℕ, ◌+◌, ◌<◌, Bool, true, false, List, [], ◌∷◌, slice_index_or, refl, sym, ap, ap₂, ◌∙◌, subst}
+use Rattle.std.proofs.Common.{◌≡◌, ℕ, ◌+◌, ◌<◌, true, false, [], ◌∷◌, slice_index_or, refl, sym, ap, ◌∙◌, subst}
 use Rattle.dash_base.specs.declared.id.ClusterId.{ClusterId}
 use Rattle.dash_base.specs.declared.id.HartId.{HartId}
 use Rattle.dash_base.specs.declared.id.WordAddr.{WordAddr}
@@ -7,12 +7,11 @@ use Rattle.dash_base.specs.declared.need.Need.{Need}
 use Rattle.dash_base.specs.declared.need.Need.TheVariants as needed
 use Rattle.dash_msg.specs.declared.msg.Msg.{Msg}
 use Rattle.dash_msg.specs.declared.msg.Msg.TheVariants.{LockAsk, Unlock}
-use Rattle.dash_msg.specs.declared.parcel.Sent.{Sent}
 use Rattle.dash_event.specs.declared.event.Kind.TheVariants as kind
 use Rattle.fence_release.specs.Conditions.{is_drained}
 use Rattle.hart_core.specs.HartState.{HartState}
 use Rattle.hart_core.specs.Meaning.{Needs}
-use Rattle.dash_model.specs.Config.{Config, cluster_of, cluster_id, hart_id, lock_at, lock_home}
+use Rattle.dash_model.specs.Config.{Config, cluster_of, lock_at, lock_home}
 use Rattle.dash_model.specs.Net.{to}
 use Rattle.dash_model.specs.Part.{Part}
 use Rattle.dash_model.specs.HartRows.{lock_target}

@@ -1,6 +1,6 @@
 -- The parts at the start show the part that a run of the machine begins with.
-use Rattle.std.proofs.Common.{◌≡◌, ℕ, ◌+◌, ◌<◌, Bool, true, false, None, Some, Option, replicate, slice_index_or, refl, sym, ap, ◌∙◌, subst, if◌then◌else◌, nat_lt, ◌≤◌, arith}
-use Rattle.std.proofs.lemmas.List.{length-replicate, get_or-replicate, get_or_past}
+use Rattle.std.proofs.Common.{List, [], ◌∷◌, ◌++◌, inl, inr, ◌≡◌, ℕ, ◌+◌, ◌<◌, Bool, true, false, None, Some, Option, replicate, slice_index_or, refl, sym, ap, ◌∙◌, subst, if◌then◌else◌, nat_lt, ◌≤◌, arith}
+use Rattle.std.proofs.lemmas.List.{length-replicate, get_or-replicate, get_or_past, get_or_push, get_or_append_left, length-append}
 use Rattle.std.proofs.lemmas.Bool.Decides.{nat_tests}
 use Rattle.remote_cache.proofs.LawsOffered.{lines_have_one_slot}
 use Rattle.dash_base.specs.Places.{first_prefetch}
@@ -20,7 +20,8 @@ use Rattle.dash_model.specs.Cell.{NoSlot}
 use Rattle.dash_model.specs.Part.{opening_part}
 use Rattle.unit_rows.specs.declared.parts.Local.{Local}
 use Rattle.unit_rows.specs.Shown.{PartsView, hart_at, copy_by, slot_in, slot_on, acks_by, home_by, lock_by, reserved_by, ShowsHart, Shows}
-use Rattle.unit_rows.specs.Opening.{IsOpeningLocal, IsOpening}
+use Rattle.unit_rows.specs.Opening.{AreOpening, IsOpeningLocal, IsOpening}
+use Rattle.unit_rows.proofs.Same.{same_or_not}
 
 shows_local : (w : Config) (c k : ℕ) (x : Local) (b : BusView) → b ≡ empty_bus w.top.harts w.top.l1 w.top.l2 → IsOpeningLocal w c k x → ShowsHart w b k x ((opening_part w).harts (hart_at w c k))
 shows_local w c k x b is o = record {
@@ -63,4 +64,14 @@ opening_shows w c v o = record {
   acks = λ l. sym (ap (acks_by w c) (ap (λ t. entry_at t l) o.acks ∙ entry_at-empty_table w.top.acks l));
   homes = λ l own. home_opening w l ∙ ap (home_by w) (sym (kept_opening w c v.home l o.home own));
   locks = λ i own. sym (ap lock_by (lock_opening w c v.locks i o.locks own));
+}
+
+-- one hart more
+pub opening_more : (w : Config) (c n : ℕ) (xs : List Local) (x : Local) → AreOpening w c n xs → IsOpeningLocal w c n x → AreOpening w c (n + 1) (xs ++ x ∷ [])
+opening_more w c n xs x all one = record {
+  count = length-append xs (x ∷ []) ∙ ap (λ m. m + 1) all.count;
+  each = λ k d low. elim (same_or_not k n) [
+    | inl e ↦ subst (IsOpeningLocal w c k) (sym (get_or_push xs x d k (all.count ∙ sym e))) (subst (λ m. IsOpeningLocal w c m x) (sym e) one)
+    | inr o ↦ subst (IsOpeningLocal w c k) (sym (get_or_append_left xs (x ∷ []) d k (let m : k < n = grind arith in omega (arith, m, all.count)))) (all.each k d (grind arith))
+  ];
 }

@@ -1,12 +1,10 @@
 -- Instructions that access no word: their rows, and when a fence can't retire.
-use Rattle.std.proofs.Common.{◌≡◌, ◌⊎◌, ℕ, ◌<◌, ◌||◌, Bool, true, false, not, List, [], slice_index_or, refl, sym, ap, ◌∙◌, subst, inl, inr}
+use Rattle.std.proofs.Common.{◌≡◌, ◌⊎◌, ℕ, ◌<◌, ◌||◌, Bool, true, false, not, [], slice_index_or, refl, sym, subst, inl, inr}
 use Rattle.dash_base.specs.declared.end.End.{End}
 use Rattle.dash_base.specs.declared.id.HartId.{HartId}
-use Rattle.dash_base.specs.declared.need.Need.{Need}
 use Rattle.dash_base.specs.declared.need.Need.TheVariants as needed
 use Rattle.dash_event.specs.declared.event.Kind.TheVariants as kind
 use Rattle.fence_release.specs.Conditions.{is_drained}
-use Rattle.hart_core.specs.HartState.{HartState}
 use Rattle.dash_model.specs.Config.{Config}
 use Rattle.dash_model.specs.Part.{Part}
 use Rattle.dash_model.specs.HartGuards.{Drained}

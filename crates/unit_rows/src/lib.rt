@@ -4,13 +4,11 @@
 #![tactic(auto)]
 
 pub use choice::Choice;
-pub use hart_ids::hart_id;
 pub use opening::opening_parts;
 pub use parts::{Local, Parts};
 pub use site::Site;
 
 mod choice;
-mod hart_ids;
 mod opening;
 mod lock_words;
 mod instructions;

@@ -3,7 +3,6 @@ ghost use Rattle.std.specs.Prelude.{◌≡◌, ◌<◌, IfOk};
 ghost use Rattle.unit_rows.specs.Shown.{config, shown};
 ghost use Rattle.unit_rows.specs.Opening.{IsOpeningLocal, AreOpening, IsOpening};
 
-use crate::hart_ids::hart_id;
 use crate::parts::{Local, Parts};
 use crate::site::Site;
 use ack_counter::AckTable;
@@ -50,7 +49,7 @@ fn opening_local(alloc: Global, site: &Site, hart: u32) -> Result<Local, OutOfMe
     ensures { IfOk result (λ local. IsOpeningLocal (config site.now) site.now.cluster.0 hart local) }
 {
     Ok(Local {
-        core: Hart::new(&site.image, &site.topology, hart_id(site, hart)),
+        core: Hart::new(&site.image, &site.topology, site.hart_id(hart)),
         reserved: None,
         buffer: Buffer::new(alloc, site.topology.buffer)?,
         asked: false,

@@ -1,4 +1,4 @@
-use Rattle.std.proofs.Common.{◌+◌, sym, ap, ◌∙◌}
+use Rattle.std.proofs.Common.{◌+◌, ap}
 use Rattle.unit_rows.specs.Shown.{config, shown}
 use Rattle.unit_rows.proofs.Retiring.{sized_local, capacity_of}
 use Rattle.unit_rows.proofs.LockSends.{does_ask, ask_cannot}

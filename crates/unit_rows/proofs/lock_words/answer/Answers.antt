@@ -1,8 +1,7 @@
-use Rattle.std.proofs.Common.{◌≡◌, ◌∙◌, sym, ap, subst, [], true, false, None}
-use Rattle.hart_core.specs.HartState.{HartState}
+use Rattle.std.proofs.Common.{◌≡◌, ◌∙◌, sym, ap, subst, [], None}
 use Rattle.hart_core.specs.Meaning.{IsFinished}
 use Rattle.unit_rows.specs.declared.parts.Local.{Local}
-use Rattle.unit_rows.specs.Shown.{config, shown, AreSized}
+use Rattle.unit_rows.specs.Shown.{config, shown}
 use Rattle.unit_rows.specs.LockWords.{own_hart_number}
 use Rattle.unit_rows.specs.Takes.{Takes}
 use Rattle.unit_rows.proofs.Harts.{with_local}

@@ -1,7 +1,7 @@
-use Rattle.std.proofs.Common.{◌≡◌, ◌∙◌, sym, ap, subst, [], true, false, None, nat_lt, tests, rules}
+use Rattle.std.proofs.Common.{◌≡◌, ◌∙◌, sym, subst, [], false, None, nat_lt, tests, rules}
 use Rattle.queue_lock.specs.View.{LocksView, waiting}
 use Rattle.dash_model.specs.Ranges.{has_hart}
-use Rattle.queue_lock.specs.Steps.{asked, after_ask}
+use Rattle.queue_lock.specs.Steps.{asked}
 use Rattle.queue_lock.specs.View.{lock_at}
 use Rattle.dash_msg.specs.declared.msg.Msg.TheVariants.{LockAsk}
 use Rattle.unit_rows.specs.Shown.{config, shown, AreSized}

@@ -1,16 +1,14 @@
-use Rattle.std.proofs.Common.{rules, ◌≡◌, ◌<◌, IfOk, ℕ, ◌+◌, ◌-◌, ◌*◌, ◌≤◌, length, ◌/◌, ◌%◌, Bool, true, false, nat_eq, nat_lt, List, [], ◌∷◌, ◌++◌, slice_index_or, slice_set, bit_and, bit_or, Fits, w8, w32, w64, Bor, MutBor}
-use Rattle.unit_rows.specs.Shown.{config, shown}
-use Rattle.unit_rows.specs.Opening.{IsOpeningLocal, AreOpening, IsOpening}
+use Rattle.std.proofs.Common.{rules, ◌+◌, ap, length, sym, subst, arith}
+use Rattle.unit_rows.specs.Shown.{config}
+use Rattle.unit_rows.specs.Opening.{AreOpening}
+use Rattle.unit_rows.proofs.Openings.{opening_more}
 use Rattle.unit_rows.proofs.opening.opening_locals.Goals as goal
 
--- src/opening.rt:41:5
 pub loop-hart-init : goal.loop-hart-init
-loop-hart-init c = ?
+loop-hart-init c = record { count = ap length c.in_ok-locals.ensures.items; each = λ k d low. absurd (omega arith) }
 
--- src/opening.rt:41:5
 pub loop-hart-preserved : goal.loop-hart-preserved
-loop-hart-preserved c = ?
+loop-hart-preserved c = subst (AreOpening (config c.args.site.now) c.args.site.now.cluster.0 (c.loop-hart.hart + 1)) (sym c.in_ok-push.ensures.items) (opening_more (config c.args.site.now) c.args.site.now.cluster.0 c.loop-hart.hart c.loop-hart.locals.items c.in_ok-opening_local.field-0 c.loop-hart.invariant c.in_ok-opening_local.ensures)
 
--- src/opening.rt:37:1
 pub returns : goal.returns
-returns c = ?
+returns c = search rules

@@ -1,5 +1,5 @@
-use Rattle.std.proofs.Common.{◌≡◌, ◌∙◌, sym, ap, subst, true, false, tests, rules}
-use Rattle.directory.specs.View.{HomeView, is_served, after_serve, sent_by}
+use Rattle.std.proofs.Common.{◌≡◌, ◌∙◌, sym, subst, true, false, tests, rules}
+use Rattle.directory.specs.View.{HomeView, is_served, sent_by}
 use Rattle.unit_rows.specs.Shown.{config, shown, AreSized}
 use Rattle.unit_rows.specs.Takes.{Takes}
 use Rattle.unit_rows.proofs.Homes.{with_home, takes_served, takes_unserved, sized_home}
