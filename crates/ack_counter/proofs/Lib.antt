@@ -4,4 +4,5 @@ pub mod Harts
 pub mod Maps
 pub mod Held
 pub mod Lines
+pub mod Counts
 pub mod LawsOffered

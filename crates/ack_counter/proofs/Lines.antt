@@ -81,3 +81,11 @@ capacity-with_entry t l e = refl
 pub capacity-without_entry : (t : TableView) (l : ℕ) → (without_entry t l).capacity ≡ t.capacity
 unfolding without_entry
 capacity-without_entry t l = refl
+
+pub capacity-set_entry : (t : TableView) (l : ℕ) (o : Option Counted) → (set_entry t l o).capacity ≡ t.capacity
+capacity-set_entry t l None = capacity-without_entry t l
+capacity-set_entry t l (Some e) = capacity-with_entry t l e
+
+pub capacity-changed : (t : TableView) (l : ℕ) (f : Counted → Option Counted) (o : Option Counted) → (changed t l f o).capacity ≡ t.capacity
+capacity-changed t l f None = refl
+capacity-changed t l f (Some e) = capacity-set_entry t l (f e)

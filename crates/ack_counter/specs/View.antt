@@ -1,5 +1,5 @@
 -- A table of acknowledgements as contracts see it: a finite map from lines to what is counted of them.
-use Rattle.std.specs.Prelude.{ℕ, Bool, Option, option_map, is_some, nat_lt, count_by, refl}
+use Rattle.std.specs.Prelude.{ℕ, zero, suc, ◌+◌, Bool, false, if◌then◌else◌, Option, Some, None, option_map, is_some, nat_lt, count_by, refl}
 use Rattle.std.specs.Ordering.{nat_cmp}
 use Rattle.std.specs.FinMap as fin
 use Rattle.std.specs.FinMap.{FinMap}
@@ -53,3 +53,21 @@ owes e hart = set.contains e.owed hart
 -- how many entries are owed to a hart
 unfoldable pub owed_to : TableView → ℕ → ℕ
 owed_to t hart = count_by (λ e. owes e hart) (fin.values t.entries)
+
+-- the same of an entry that may be there
+abbrev pub owes_if : Option Counted → ℕ → Bool
+owes_if None hart = false
+owes_if (Some e) hart = owes e hart
+
+-- whether acknowledgements of a line are owed to a hart
+abbrev pub owes_at : TableView → ℕ → ℕ → Bool
+owes_at t line hart = owes_if (entry_at t line) hart
+
+-- 1 where a line has an entry
+abbrev pub one_pending : TableView → ℕ → ℕ
+one_pending t line = if is_pending t line then 1 else 0
+
+-- how many lines below a number have an entry
+unfoldable pub pending_below : TableView → ℕ → ℕ
+pending_below t zero = 0
+pending_below t (suc n) = one_pending t n + pending_below t n

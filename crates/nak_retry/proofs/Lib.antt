@@ -1,0 +1,2 @@
+pub mod Reissued
+pub mod LawsOffered
