@@ -110,6 +110,23 @@ fn a_word_goes_round_in_the_order_of_asking(rt: HostRuntime) -> Result<(), Fail>
 }
 
 #[test]
+fn a_freed_word_goes_to_who_asked_next(rt: HostRuntime) -> Result<(), Fail> {
+    let mut locks = opening(rt.alloc(), &topology(4, 1, 8)?, 1)?;
+    let (first, second) = (waiter(3, 7), waiter(1, 9));
+    for asked in [first, second] {
+        assert_eq!(rt; ask(&mut locks, 5, asked), Answer::Done);
+    }
+    assert_eq!(rt; seen(&locks, 5), Some((0, 0, true)));
+    assert_eq!(rt; grant(&mut locks, 5), Answer::Granted(first));
+    assert_eq!(rt; seen(&locks, 5), Some((7, 1, false)));
+    assert_eq!(rt; free(&mut locks, 5), Answer::Held(7));
+    assert_eq!(rt; seen(&locks, 5), Some((0, 2, true)));
+    assert_eq!(rt; grant(&mut locks, 5), Answer::Granted(second));
+    assert_eq!(rt; seen(&locks, 5), Some((9, 3, false)));
+    Ok(())
+}
+
+#[test]
 fn each_home_has_its_words(rt: HostRuntime) -> Result<(), Fail> {
     for (clusters, words, cluster, own) in [
         (1_u32, 3_u32, 0_u32, 0b111_u32),

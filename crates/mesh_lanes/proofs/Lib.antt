@@ -1,2 +1,3 @@
 pub mod Spool
+pub mod Known
 pub mod LawsOffered

@@ -41,7 +41,7 @@ impl Model for Outlet {
 }
 
 impl Outlet {
-    /// Takes memory, so that at least `n` parcels can be sent. The answer may be want of memory also
+    /// Takes memory, so that at least `n` parcels can be sent. The answer may be `OutOfMemory` also
     /// where a part of it was taken.
     pub fn reserve(&mut self, n: u32) -> Result<(), OutOfMemory>
         ensures ok { OnOk result (n ≤ self.new.spare) }

@@ -1,5 +1,5 @@
 -- A call changes one lock word, and with it how many wait: the laws of lock words, proved.
-use Rattle.std.proofs.Common.{◌≡◌, ◌≢◌, ◌<◌, ◌≤◌, ℕ, ◌+◌, Bool, true, false, cond, [], ◌∷◌, length, Some, refl, sym, ap, ◌∙◌, arith, length-append, length-drop}
+use Rattle.std.proofs.Common.{◌≡◌, ◌≢◌, ◌<◌, ◌≤◌, ℕ, ◌+◌, Bool, true, false, cond, List, [], ◌∷◌, length, drop, slice_get, Some, refl, sym, ap, ◌∙◌, arith, length-append, length-drop}
 use Rattle.std.specs.Prelude.{◌==◌}
 use Rattle.std.specs.FinMap.{get}
 use Rattle.std.proofs.lemmas.Bool.Decides.{nat_tests}
@@ -90,3 +90,8 @@ waiters_are_counted = record {
   grant = λ v i w own ready. waiting-grant v i w own (ready_some (lock_at v i) ready);
   free = waiting-free;
 }
+
+-- the first of a queue stands in front of the others
+pub first_in_front : (queue : List Waiter) (w : Waiter) → slice_get queue 0 ≡ Some w → queue ≡ w ∷ drop 1 queue
+first_in_front [] w is = absurd (cc)
+first_in_front (x ∷ xs) w is = let same : x ≡ w = cc in ap (λ y. y ∷ xs) same
