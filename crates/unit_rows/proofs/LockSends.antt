@@ -27,7 +27,7 @@ use Rattle.unit_rows.specs.Steps.{HartNeeds, changed_local}
 use Rattle.unit_rows.specs.Rows.{DoesChoice, Cannot}
 use Rattle.unit_rows.proofs.Harts.{shows_change}
 use Rattle.unit_rows.proofs.Drained.{drained_shown, drained_back}
-use Rattle.unit_rows.proofs.Retiring.{effect, part_needs, shown_by, same_local, cluster-hart_at}
+use Rattle.unit_rows.proofs.Retiring.{effect, part_needs, shown_by, same_local, number_there, cluster-hart_at}
 use Rattle.unit_rows.proofs.StepTold.{step_told}
 
 -- what the lemma on both messages takes of one: its need, what it is on a part, and where it goes
@@ -62,10 +62,6 @@ does_send : (w : Config) (c k : ℕ) (g : HartId) (m : Msg) (need : Need) (t : C
     → DoesChoice w c (Step k) (kind.LockSend g m) v (changed_local v k (record y { asked = true })) (record { to = t; msg = m } ∷ [])
 does_send w c k g m need t v x y a e low sized is as_well unsent =
     subst (λ (z : Local). DoesChoice w c (Step k) (kind.LockSend g m) v (changed_local v k (record z { asked = true })) (record { to = t; msg = m } ∷ [])) (same_local v k x y (subst (λ n. k < n) (sym sized.locals) low) is as_well) (send_from w c k g m need t v x a e low sized is unsent)
-
--- the number of the hart's instruction
-number_there : (w : Config) (c k h : ℕ) (v : PartsView) (x : Local) (p : Part) → h ≡ hart_at w c k → k < w.top.harts → Shows w c v p → x ≡ slice_index_or v.locals k x → x.core.retired + 1 ≡ number_of h p
-number_there w c k h v x p e low s is = ap (λ (y : HartState). y.retired + 1) (sym (shown_by w c v k x p low s (sym is)).core) ∙ sym (ap (λ i. number_of i p) e)
 
 pub does_ask : (w : Config) (c k n value : ℕ) (g : HartId) (word : WordAddr) (t : ClusterId) (v : PartsView) (x y : Local) → g.0 ≡ hart_at w c k → k < w.top.harts → AreSized w c v → HartNeeds w v k (needed.Ask word value)
     → x ≡ slice_index_or v.locals k x → y ≡ slice_index_or v.locals k y → x.asked ≡ false → n ≡ x.core.retired + 1 → t.0 ≡ lock_home w (lock_at w word.0)

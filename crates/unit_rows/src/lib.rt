@@ -9,6 +9,8 @@ pub use site::Site;
 
 mod choice;
 mod instructions;
+mod loads;
 mod lock_instructions;
 mod parts;
 mod site;
+mod stores;
