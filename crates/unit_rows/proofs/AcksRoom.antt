@@ -1,5 +1,5 @@
 -- As many lines are pending as the table of acknowledgements has entries, so there is room for one more on both or on neither.
-use Rattle.std.proofs.Common.{◌≡◌, ℕ, zero, suc, ◌+◌, ◌<◌, Bool, true, false, Option, None, Some, is_some, nat_lt, refl, sym, ap, ap₂, ◌∙◌, subst, arith, if◌then◌else◌}
+use Rattle.std.proofs.Common.{◌≡◌, ℕ, zero, suc, ◌+◌, ◌<◌, true, Option, None, Some, is_some, refl, sym, ap, ap₂, ◌∙◌, subst, arith, if◌then◌else◌}
 use Rattle.std.proofs.lemmas.Bool.Decides.{nat_tests}
 use Rattle.dash_base.specs.Places.{line_count}
 use Rattle.ack_counter.specs.View.{Counted, TableView, entry_at, is_pending, count, has_room, pending_below}

@@ -1,8 +1,7 @@
 -- A hart is drained on the part exactly where its buffer is empty and the table owes it nothing.
-use Rattle.std.proofs.Common.{◌≡◌, ℕ, ◌<◌, Bool, true, false, Option, None, Some, slice_index_or, refl, sym, ap, ◌∙◌, subst}
+use Rattle.std.proofs.Common.{◌≡◌, ℕ, ◌<◌, true, Option, None, Some, refl, sym, ap, ◌∙◌}
 use Rattle.ack_counter.specs.View.{Counted, entry_at, owes, owes_if}
 use Rattle.fence_release.specs.Conditions.{is_drained}
-use Rattle.fence_release.proofs.LawsOffered as table
 use Rattle.fence_release.proofs.LawsOffered.{drained_tells, drained_holds}
 use Rattle.dash_model.specs.Config.{Config}
 use Rattle.dash_model.specs.Part.{Part}

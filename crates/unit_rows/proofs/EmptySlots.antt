@@ -1,6 +1,5 @@
 -- A slot is empty in the code exactly where no line of the part is in it.
-use Rattle.std.proofs.Common.{◌≡◌, ◌≢◌, ℕ, ◌==◌, Bool, true, false, cond, Option, None, Some, refl, sym, ap, ◌∙◌, arith}
-use Rattle.std.proofs.lemmas.Bool.Decides.{nat_tests}
+use Rattle.std.proofs.Common.{◌≡◌, ◌≢◌, ℕ, ◌==◌, Bool, true, false, cond, Option, None, Some, refl, ap, ◌∙◌}
 use Rattle.remote_cache.specs.declared.slot.Slot.{Slot as Request}
 use Rattle.remote_cache.specs.View.{SlotsView, slot_at, slot_of, is_of, IsOnePerLine}
 use Rattle.remote_cache.proofs.LawsOffered.{lines_have_one_slot}

@@ -1,5 +1,5 @@
 -- Loads: their rows, from a store that waits or from the cluster's copy, and when they can't retire.
-use Rattle.std.proofs.Common.{◌≡◌, ◌≢◌, ℕ, ◌+◌, ◌<◌, ◌%◌, ◌==◌, ◌&&◌, ◌||◌, Bool, true, false, cond, not, None, Some, Option, List, [], slice_index_or, slice_set, length, refl, sym, ap, ◌∙◌, subst, inl, inr, arith, if◌then◌else◌}
+use Rattle.std.proofs.Common.{◌≡◌, ◌≢◌, ℕ, ◌+◌, ◌<◌, ◌%◌, ◌==◌, ◌&&◌, ◌||◌, Bool, true, false, cond, not, None, Some, Option, [], slice_index_or, slice_set, refl, sym, ap, ◌∙◌, subst, inl, inr, arith, if◌then◌else◌}
 use Rattle.std.specs.Prelude.{option_map, IfNone}
 use Rattle.std.proofs.lemmas.Bool.Decides.{nat_tests}
 use Rattle.std.proofs.lemmas.List.{get_or-set_same, get_or-set_other}
@@ -11,14 +11,12 @@ use Rattle.dash_base.specs.declared.need.Need.{Need}
 use Rattle.dash_base.specs.declared.need.Need.TheVariants as needed
 use Rattle.dash_event.specs.Offered.{bare_access, bytes_under, load_op, offered}
 use Rattle.dash_event.specs.declared.access.Access.{Access}
-use Rattle.dash_event.specs.declared.access.Op.{Op}
-use Rattle.dash_event.specs.declared.access.Op.TheVariants as op
 use Rattle.dash_event.specs.declared.access.Seen.{Seen}
 use Rattle.dash_event.specs.declared.access.Seen.TheVariants as seen
 use Rattle.dash_event.specs.declared.event.Kind.TheVariants as kind
 use Rattle.write_buffer.specs.Look.{newest_of, look_by}
 use Rattle.write_buffer.specs.declared.entry.Look.{Look}
-use Rattle.write_buffer.specs.declared.entry.Look.TheVariants.{None as NoStore, Hit, Wait}
+use Rattle.write_buffer.specs.declared.entry.Look.TheVariants.{None as NoStore, Hit}
 use Rattle.hart_core.specs.HartState.{HartState}
 use Rattle.hart_core.specs.Meaning.{IsNext, Does}
 use Rattle.snoop_bus.specs.Holding.{Holding, has_hart, holders_in, copy_in}
@@ -28,7 +26,7 @@ use Rattle.dash_model.specs.Maps.{upd}
 use Rattle.dash_model.specs.Config.{Config, line_at}
 use Rattle.dash_model.specs.Part.{Processor, Part}
 use Rattle.dash_model.specs.Words.{held_by, content, word_in}
-use Rattle.dash_model.specs.HartRows.{HartEffect, change, is_line, loaded_from, reserving}
+use Rattle.dash_model.specs.HartRows.{change, is_line, loaded_from, reserving}
 use Rattle.dash_model.specs.HartGuards.{number_of, level_of, LoadsBy}
 use Rattle.dash_model.specs.Guard.{Guard}
 use Rattle.dash_model.specs.Row.{row}
@@ -67,24 +65,27 @@ pub does_stored : (w : Config) (c k n mask value number : ℕ) (g : HartId) (wor
 unfolding Guard row
 does_stored w c k n mask value number g word labels v x core e low sized needs is count found does = record {
   is_of = e;
-  does = record { done = effect (needed.Load word mask labels false) core; happens = λ p s.
-    let need : Need = needed.Load word mask labels false in
-    let a : Access = load_access g.0 n word mask labels false value (seen.Own number) in
-    let hart = shown_by w c v k x p low s (sym is) in
-    let m : n ≡ number_of g.0 p = count ∙ number_there w c k g.0 v x p e low s is in
-    let look = look_there w c k g.0 mask word (Hit value number) v x p e low s is found in
-    record {
-      guard = record {
-        labels = labels;
-        reserve = false;
-        next = part_does w c k g.0 (bytes_under mask value) need x core (p.harts (hart_at w c k)) p e low refl hart.core (does_by w v k (bytes_under mask value) need x core needs is does);
-        from = subst (λ y. LoadsBy w y a 0 false (effect need core) p) (sym look) (record { plain = refl; level_is = refl; access = record { made = ap (λ i. offered g.0 i need value false) m; seen_is = refl } });
-      };
-      shows = subst (λ y. Shows w c (changed_local v k (record x { core = core })) (change g.0 (loaded_from w a (line_at w word.0) y (record (p.harts g.0) { core = core })) p)) (sym look)
-          (subst (λ i. Shows w c (changed_local v k (record x { core = core })) (change i (record (p.harts i) { core = core }) p)) (sym e)
-          (shows_change w c v p k (record x { core = core }) (record (p.harts (hart_at w c k)) { core = core }) low sized.locals s (record { core = refl; reserved = hart.reserved; buffer = hart.buffer; asked = hart.asked; l1 = hart.l1 })));
-      sent_is = refl;
-    } };
+  does = record {
+    done = effect (needed.Load word mask labels false) core;
+    happens = λ p s.
+        let need : Need = needed.Load word mask labels false in
+        let a : Access = load_access g.0 n word mask labels false value (seen.Own number) in
+        let hart = shown_by w c v k x p low s (sym is) in
+        let m : n ≡ number_of g.0 p = count ∙ number_there w c k g.0 v x p e low s is in
+        let look = look_there w c k g.0 mask word (Hit value number) v x p e low s is found in
+        record {
+          guard = record {
+            labels = labels;
+            reserve = false;
+            next = part_does w c k g.0 (bytes_under mask value) need x core (p.harts (hart_at w c k)) p e low refl hart.core (does_by w v k (bytes_under mask value) need x core needs is does);
+            from = subst (λ y. LoadsBy w y a 0 false (effect need core) p) (sym look) (record { plain = refl; level_is = refl; access = record { made = ap (λ i. offered g.0 i need value false) m; seen_is = refl } });
+          };
+          shows = subst (λ y. Shows w c (changed_local v k (record x { core = core })) (change g.0 (loaded_from w a (line_at w word.0) y (record (p.harts g.0) { core = core })) p)) (sym look)
+              (subst (λ i. Shows w c (changed_local v k (record x { core = core })) (change i (record (p.harts i) { core = core }) p)) (sym e)
+              (shows_change w c v p k (record x { core = core }) (record (p.harts (hart_at w c k)) { core = core }) low sized.locals s (record { core = refl; reserved = hart.reserved; buffer = hart.buffer; asked = hart.asked; l1 = hart.l1 })));
+          sent_is = refl;
+        };
+  };
 }
 
 -- the line enters the L1 that a part tells of, as it enters the code's
@@ -207,37 +208,40 @@ pub does_held : (w : Config) (c k n mask level : ℕ) (g : HartId) (word : WordA
 unfolding Guard row
 does_held w c k n mask level g word labels reserve d v x core e low sized needs is count found read does = record {
   is_of = e;
-  does = record { done = effect (needed.Load word mask labels reserve) core; happens = λ p s.
-    let need : Need = needed.Load word mask labels reserve in
-    let l : ℕ = line_at w word.0 in
-    let y : Local = record x { core = core; reserved = reserves reserve word x.reserved } in
-    let a : Access = load_access g.0 n word mask labels reserve (word_in w word.0 d) (seen.Line d.version) in
-    let hart = shown_by w c v k x p low s (sym is) in
-    let m : n ≡ number_of g.0 p = count ∙ number_there w c k g.0 v x p e low s is in
-    let look = look_there w c k g.0 mask word NoStore v x p e low s is found in
-    let d_is : content (p.cells l).copy ≡ d = ap content (s.copies l) ∙ content_by w c d (holding_at v.bus l) read.copy in
-    record {
-      guard = record {
-        labels = labels;
-        reserve = reserve;
-        next = part_does w c k g.0 (bytes_under mask (word_in w word.0 d)) need x core (p.harts (hart_at w c k)) p e low refl hart.core (does_by w v k (bytes_under mask (word_in w word.0 d)) need x core needs is does);
-        from = subst (λ z. LoadsBy w z a level reserve (effect need core) p) (sym look) (record {
-          holder = subst (λ i. held_by i (p.cells l).copy ≡ true) (sym e) (ap (held_by (hart_at w c k)) (s.copies l) ∙ held-copy_by w c k (holding_at v.bus l) low ∙ read.held);
-          level_is = read.level_is ∙ ap (λ t. cond t 1 2) (sym (hart.l1 l)) ∙ ap (λ i. level_of w l (p.harts i).l1) (sym e);
-          access = record { made = ap (λ i. offered g.0 i need (word_in w word.0 d) false) m ∙ ap (λ z. offered g.0 (number_of g.0 p) need (word_in w word.0 z) false) (sym d_is); seen_is = ap (λ (z : Line). seen.Line z.version) (sym d_is) };
-        });
-      };
-      shows = subst (λ z. Shows w c (after_read v k l y) (change g.0 (loaded_from w a l z (record (p.harts g.0) { core = core })) p)) (sym look)
-          (subst (λ i. Shows w c (after_read v k l y) (change i (record (p.harts i) { core = core; l1 = upd (p.harts i).l1 (l % w.top.l1) (Some l); reserved = reserving (load_op reserve) word.0 (p.harts i).reserved }) p)) (sym e)
-          (shows_read w c k l v p y (record (p.harts (hart_at w c k)) { core = core; l1 = upd (p.harts (hart_at w c k)).l1 (l % w.top.l1) (Some l); reserved = reserving (load_op reserve) word.0 (p.harts (hart_at w c k)).reserved }) low sized s (record {
-            core = refl;
-            reserved = ap (reserving (load_op reserve) word.0) hart.reserved ∙ reserving_by word x.reserved reserve;
-            buffer = hart.buffer;
-            asked = hart.asked;
-            l1 = λ q. l1_enters w k l q v.bus (p.harts (hart_at w c k)).l1 (subst (λ i. k < i) (sym sized.bus_harts) low) sized.l1 read.held hart.l1;
-          })));
-      sent_is = refl;
-    } };
+  does = record {
+    done = effect (needed.Load word mask labels reserve) core;
+    happens = λ p s.
+        let need : Need = needed.Load word mask labels reserve in
+        let l : ℕ = line_at w word.0 in
+        let y : Local = record x { core = core; reserved = reserves reserve word x.reserved } in
+        let a : Access = load_access g.0 n word mask labels reserve (word_in w word.0 d) (seen.Line d.version) in
+        let hart = shown_by w c v k x p low s (sym is) in
+        let m : n ≡ number_of g.0 p = count ∙ number_there w c k g.0 v x p e low s is in
+        let look = look_there w c k g.0 mask word NoStore v x p e low s is found in
+        let d_is : content (p.cells l).copy ≡ d = ap content (s.copies l) ∙ content_by w c d (holding_at v.bus l) read.copy in
+        record {
+          guard = record {
+            labels = labels;
+            reserve = reserve;
+            next = part_does w c k g.0 (bytes_under mask (word_in w word.0 d)) need x core (p.harts (hart_at w c k)) p e low refl hart.core (does_by w v k (bytes_under mask (word_in w word.0 d)) need x core needs is does);
+            from = subst (λ z. LoadsBy w z a level reserve (effect need core) p) (sym look) (record {
+              holder = subst (λ i. held_by i (p.cells l).copy ≡ true) (sym e) (ap (held_by (hart_at w c k)) (s.copies l) ∙ held-copy_by w c k (holding_at v.bus l) low ∙ read.held);
+              level_is = read.level_is ∙ ap (λ t. cond t 1 2) (sym (hart.l1 l)) ∙ ap (λ i. level_of w l (p.harts i).l1) (sym e);
+              access = record { made = ap (λ i. offered g.0 i need (word_in w word.0 d) false) m ∙ ap (λ z. offered g.0 (number_of g.0 p) need (word_in w word.0 z) false) (sym d_is); seen_is = ap (λ (z : Line). seen.Line z.version) (sym d_is) };
+            });
+          };
+          shows = subst (λ z. Shows w c (after_read v k l y) (change g.0 (loaded_from w a l z (record (p.harts g.0) { core = core })) p)) (sym look)
+              (subst (λ i. Shows w c (after_read v k l y) (change i (record (p.harts i) { core = core; l1 = upd (p.harts i).l1 (l % w.top.l1) (Some l); reserved = reserving (load_op reserve) word.0 (p.harts i).reserved }) p)) (sym e)
+              (shows_read w c k l v p y (record (p.harts (hart_at w c k)) { core = core; l1 = upd (p.harts (hart_at w c k)).l1 (l % w.top.l1) (Some l); reserved = reserving (load_op reserve) word.0 (p.harts (hart_at w c k)).reserved }) low sized s (record {
+                core = refl;
+                reserved = ap (reserving (load_op reserve) word.0) hart.reserved ∙ reserving_by word x.reserved reserve;
+                buffer = hart.buffer;
+                asked = hart.asked;
+                l1 = λ q. l1_enters w k l q v.bus (p.harts (hart_at w c k)).l1 (subst (λ i. k < i) (sym sized.bus_harts) low) sized.l1 read.held hart.l1;
+              })));
+          sent_is = refl;
+        };
+  };
 }
 
 -- the same, as the code has its values

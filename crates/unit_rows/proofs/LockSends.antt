@@ -1,5 +1,5 @@
 -- Instructions that take or give back a lock word: the row of sending their messages, and when none is sent.
-use Rattle.std.proofs.Common.{◌≡◌, ℕ, ◌+◌, ◌<◌, Bool, true, false, List, [], ◌∷◌, slice_index_or, refl, sym, ap, ap₂, ◌∙◌, subst}
+use Rattle.std.proofs.Common.{◌≡◌, ℕ, ◌+◌, ◌<◌, true, false, [], ◌∷◌, slice_index_or, refl, sym, ap, ◌∙◌, subst}
 use Rattle.dash_base.specs.declared.id.ClusterId.{ClusterId}
 use Rattle.dash_base.specs.declared.id.HartId.{HartId}
 use Rattle.dash_base.specs.declared.id.WordAddr.{WordAddr}
@@ -7,16 +7,14 @@ use Rattle.dash_base.specs.declared.need.Need.{Need}
 use Rattle.dash_base.specs.declared.need.Need.TheVariants as needed
 use Rattle.dash_msg.specs.declared.msg.Msg.{Msg}
 use Rattle.dash_msg.specs.declared.msg.Msg.TheVariants.{LockAsk, Unlock}
-use Rattle.dash_msg.specs.declared.parcel.Sent.{Sent}
 use Rattle.dash_event.specs.declared.event.Kind.TheVariants as kind
 use Rattle.fence_release.specs.Conditions.{is_drained}
-use Rattle.hart_core.specs.HartState.{HartState}
 use Rattle.hart_core.specs.Meaning.{Needs}
-use Rattle.dash_model.specs.Config.{Config, cluster_of, cluster_id, hart_id, lock_at, lock_home}
+use Rattle.dash_model.specs.Config.{Config, cluster_of, lock_at, lock_home}
 use Rattle.dash_model.specs.Net.{to}
 use Rattle.dash_model.specs.Part.{Part}
 use Rattle.dash_model.specs.HartRows.{lock_target}
-use Rattle.dash_model.specs.HartGuards.{Drained, LockSends, number_of}
+use Rattle.dash_model.specs.HartGuards.{Drained, LockSends}
 use Rattle.dash_model.specs.HartRows.{change}
 use Rattle.dash_model.specs.Guard.{Guard}
 use Rattle.dash_model.specs.Row.{row}
@@ -41,20 +39,23 @@ send_from : (w : Config) (c k : ℕ) (g : HartId) (m : Msg) (need : Need) (t : C
 unfolding Guard row
 send_from w c k g m need t v x a e low sized is unsent = record {
   is_of = e;
-  does = record { done = effect need x.core; happens = λ p s.
-    let hart = shown_by w c v k x p low s (sym is) in
-    record {
-      guard = record {
-        mine = ap (cluster_of w) e ∙ cluster-hart_at w c k low;
-        need = need;
-        needs = subst (λ i. Needs w.image w.top (p.harts i).core need) (sym e) (part_needs w c v k need x p low s a.needs);
-        unsent = ap (λ i. (p.harts i).asked) e ∙ hart.asked ∙ unsent;
-        sends = a.sends p s;
-      };
-      shows = subst (λ i. Shows w c (changed_local v k (record x { asked = true })) (change i (record (p.harts i) { asked = true }) p)) (sym e)
-          (shows_change w c v p k (record x { asked = true }) (record (p.harts (hart_at w c k)) { asked = true }) low sized.locals s (record { core = hart.core; reserved = hart.reserved; buffer = hart.buffer; asked = refl; l1 = hart.l1 }));
-      sent_is = ap (λ n. to n m ∷ []) (sym a.target);
-    } };
+  does = record {
+    done = effect need x.core;
+    happens = λ p s.
+        let hart = shown_by w c v k x p low s (sym is) in
+        record {
+          guard = record {
+            mine = ap (cluster_of w) e ∙ cluster-hart_at w c k low;
+            need = need;
+            needs = subst (λ i. Needs w.image w.top (p.harts i).core need) (sym e) (part_needs w c v k need x p low s a.needs);
+            unsent = ap (λ i. (p.harts i).asked) e ∙ hart.asked ∙ unsent;
+            sends = a.sends p s;
+          };
+          shows = subst (λ i. Shows w c (changed_local v k (record x { asked = true })) (change i (record (p.harts i) { asked = true }) p)) (sym e)
+              (shows_change w c v p k (record x { asked = true }) (record (p.harts (hart_at w c k)) { asked = true }) low sized.locals s (record { core = hart.core; reserved = hart.reserved; buffer = hart.buffer; asked = refl; l1 = hart.l1 }));
+          sent_is = ap (λ n. to n m ∷ []) (sym a.target);
+        };
+  };
 }
 
 -- the same, where the hart was read twice

@@ -1,12 +1,10 @@
 -- Instructions that access no word: their rows, and when a fence can't retire.
-use Rattle.std.proofs.Common.{◌≡◌, ◌⊎◌, ℕ, ◌<◌, ◌||◌, Bool, true, false, not, List, [], slice_index_or, refl, sym, ap, ◌∙◌, subst, inl, inr}
+use Rattle.std.proofs.Common.{◌≡◌, ◌⊎◌, ℕ, ◌<◌, ◌||◌, Bool, true, false, not, [], slice_index_or, refl, sym, subst, inl, inr}
 use Rattle.dash_base.specs.declared.end.End.{End}
 use Rattle.dash_base.specs.declared.id.HartId.{HartId}
-use Rattle.dash_base.specs.declared.need.Need.{Need}
 use Rattle.dash_base.specs.declared.need.Need.TheVariants as needed
 use Rattle.dash_event.specs.declared.event.Kind.TheVariants as kind
 use Rattle.fence_release.specs.Conditions.{is_drained}
-use Rattle.hart_core.specs.HartState.{HartState}
 use Rattle.dash_model.specs.Config.{Config}
 use Rattle.dash_model.specs.Part.{Part}
 use Rattle.dash_model.specs.HartGuards.{Drained}
@@ -52,9 +50,12 @@ pub does_fence : (w : Config) (c k pc : ℕ) (waits : Bool) (g : HartId) (v z : 
 unfolding Guard row
 does_fence w c k pc waits g v z x r e low sized n is may = record {
   is_of = e;
-  does = record { done = effect (needed.Fence waits) r.core; happens = λ p s.
-    let q = plain_step w c k g.0 pc (needed.Fence waits) v z p r e low sized n s in
-    record { guard = record { waits = waits; next = q.at; passes = passes w c k g.0 waits v x p e low s (sym is) may }; shows = q.shows; sent_is = refl } };
+  does = record {
+    done = effect (needed.Fence waits) r.core;
+    happens = λ p s.
+        let q = plain_step w c k g.0 pc (needed.Fence waits) v z p r e low sized n s in
+        record { guard = record { waits = waits; next = q.at; passes = passes w c k g.0 waits v x p e low s (sym is) may }; shows = q.shows; sent_is = refl };
+  };
 }
 
 -- and it can't where neither is so

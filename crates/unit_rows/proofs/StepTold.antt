@@ -1,5 +1,5 @@
 -- What an event of a hart's instruction tells, by what the hart needs for it.
-use Rattle.std.proofs.Common.{◌≡◌, ◌≢◌, ◌⊎◌, ℕ, ◌<◌, Bool, true, false, None, Some, List, [], length, refl, sym, ap, ◌∙◌, subst, inl, inr}
+use Rattle.std.proofs.Common.{◌≡◌, ◌≢◌, ◌⊎◌, ℕ, ◌<◌, Bool, true, false, None, Some, length, refl, sym, subst, inl, inr}
 use Rattle.dash_base.specs.declared.id.WordAddr.{WordAddr}
 use Rattle.dash_base.specs.declared.instr.Labels.{Labels}
 use Rattle.dash_base.specs.declared.ops.AmoOp.{AmoOp}
@@ -20,7 +20,7 @@ use Rattle.dash_model.specs.Cell.{NoAcks}
 use Rattle.dash_model.specs.Part.{Part}
 use Rattle.dash_model.specs.Words.{held_by, in_m, IsEmptySlot}
 use Rattle.dash_model.specs.HartRows.{HartEffect}
-use Rattle.dash_model.specs.HartGuards.{Retires, Drained, LoadsBy, HasReserved, LockSends, SlotIs}
+use Rattle.dash_model.specs.HartGuards.{Retires, Drained, LoadsBy, HasReserved, LockSends}
 use Rattle.dash_model.specs.Guard.{Guard}
 use Rattle.unit_rows.specs.Shown.{hart_at}
 use Rattle.unit_rows.specs.Choices.{IsStepOf}

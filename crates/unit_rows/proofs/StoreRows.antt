@@ -1,6 +1,5 @@
 -- Stores, and SCs that fail: their rows, and when they can't retire.
-use Rattle.std.proofs.Common.{◌≡◌, ◌≢◌, ◌⊎◌, ℕ, ◌+◌, ◌<◌, ◌≤◌, Bool, true, false, None, Some, Option, Result, Ok, Err, IsOk, OnOk, ◌↔◌, List, [], ◌∷◌, ◌++◌, length, is_some, slice_index_or, refl, sym, ap, ◌∙◌, subst, inl, inr, arith}
-use Rattle.circular_buffer.specs.Buffer.{buffer}
+use Rattle.std.proofs.Common.{◌≡◌, ◌≢◌, ◌⊎◌, ℕ, ◌+◌, ◌<◌, ◌≤◌, true, false, None, Some, Option, Result, Ok, Err, IsOk, OnOk, ◌↔◌, [], ◌∷◌, ◌++◌, length, is_some, slice_index_or, refl, sym, ap, ◌∙◌, subst, inl, inr, arith}
 use Rattle.dash_base.specs.declared.id.HartId.{HartId}
 use Rattle.dash_base.specs.declared.id.WordAddr.{WordAddr}
 use Rattle.dash_base.specs.declared.instr.Labels.{Labels}
@@ -12,7 +11,6 @@ use Rattle.dash_event.specs.declared.access.Access.{Access}
 use Rattle.dash_event.specs.declared.access.Op.TheVariants as op
 use Rattle.dash_event.specs.declared.event.Kind.TheVariants as kind
 use Rattle.write_buffer.specs.View.{BufferView}
-use Rattle.write_buffer.specs.declared.entry.Entry.{Entry}
 use Rattle.hart_core.specs.HartState.{HartState}
 use Rattle.hart_core.specs.Meaning.{Needs, Does, IsNext}
 use Rattle.remote_cache.specs.View.{slot_at, IsOnePerLine}
@@ -51,22 +49,25 @@ store_by : (w : Config) (c k n mask value : ℕ) (g : HartId) (word : WordAddr) 
 unfolding Guard row
 store_by w c k n mask value g word v x core b e low sized needs is number room does put = record {
   is_of = e;
-  does = record { done = effect (needed.Store word mask value) core; happens = λ p s.
-    let hart = shown_by w c v k x p low s (sym is) in
-    let a : Access = store_access g.0 n word mask value in
-    let m : n ≡ number_of g.0 p = number ∙ number_there w c k g.0 v x p e low s is in
-    record {
-      guard = record {
-        value = value;
-        next = part_does w c k g.0 0 (needed.Store word mask value) x core (p.harts (hart_at w c k)) p e low refl hart.core (does_by w v k 0 (needed.Store word mask value) x core needs is does);
-        access = record { made = ap (λ i. offered g.0 i (needed.Store word mask value) 0 false) m; seen_is = refl };
-        room = subst (λ i. length (p.harts i).buffer < w.top.buffer) (sym e) (subst (λ es. length es < w.top.buffer) (sym hart.buffer) room);
-      };
-      shows = subst (λ i. Shows w c (changed_local v k (record x { core = core; buffer = b })) (change i (record (p.harts i) { core = core; buffer = (p.harts i).buffer ++ entry_of a ∷ [] }) p)) (sym e)
-          (shows_change w c v p k (record x { core = core; buffer = b }) (record (p.harts (hart_at w c k)) { core = core; buffer = (p.harts (hart_at w c k)).buffer ++ entry_of a ∷ [] }) low sized.locals s
-          (record { core = refl; reserved = hart.reserved; buffer = ap (λ es. es ++ entry_of a ∷ []) hart.buffer ∙ sym put; asked = hart.asked; l1 = hart.l1 }));
-      sent_is = refl;
-    } };
+  does = record {
+    done = effect (needed.Store word mask value) core;
+    happens = λ p s.
+        let hart = shown_by w c v k x p low s (sym is) in
+        let a : Access = store_access g.0 n word mask value in
+        let m : n ≡ number_of g.0 p = number ∙ number_there w c k g.0 v x p e low s is in
+        record {
+          guard = record {
+            value = value;
+            next = part_does w c k g.0 0 (needed.Store word mask value) x core (p.harts (hart_at w c k)) p e low refl hart.core (does_by w v k 0 (needed.Store word mask value) x core needs is does);
+            access = record { made = ap (λ i. offered g.0 i (needed.Store word mask value) 0 false) m; seen_is = refl };
+            room = subst (λ i. length (p.harts i).buffer < w.top.buffer) (sym e) (subst (λ es. length es < w.top.buffer) (sym hart.buffer) room);
+          };
+          shows = subst (λ i. Shows w c (changed_local v k (record x { core = core; buffer = b })) (change i (record (p.harts i) { core = core; buffer = (p.harts i).buffer ++ entry_of a ∷ [] }) p)) (sym e)
+              (shows_change w c v p k (record x { core = core; buffer = b }) (record (p.harts (hart_at w c k)) { core = core; buffer = (p.harts (hart_at w c k)).buffer ++ entry_of a ∷ [] }) low sized.locals s
+              (record { core = refl; reserved = hart.reserved; buffer = ap (λ es. es ++ entry_of a ∷ []) hart.buffer ∙ sym put; asked = hart.asked; l1 = hart.l1 }));
+          sent_is = refl;
+        };
+  };
 }
 
 -- an entry is put where there is room
@@ -105,23 +106,26 @@ sc_by : (w : Config) (c k n operand : ℕ) (g : HartId) (word : WordAddr) (label
 unfolding Guard row
 sc_by w c k n operand g word labels v x core e low sized needs is number unreserved front does = record {
   is_of = e;
-  does = record { done = effect (needed.Rmw word Sc operand labels) core; happens = λ p s.
-    let hart = shown_by w c v k x p low s (sym is) in
-    let m : n ≡ number_of g.0 p = number ∙ number_there w c k g.0 v x p e low s is in
-    record {
-      guard = record {
-        operand = operand;
-        labels = labels;
-        next = part_does w c k g.0 1 (needed.Rmw word Sc operand labels) x core (p.harts (hart_at w c k)) p e low refl hart.core (does_by w v k 1 (needed.Rmw word Sc operand labels) x core needs is does);
-        unreserved = λ r. unreserved (sym hart.reserved ∙ subst (λ i. (p.harts i).reserved ≡ Some word.0) e r);
-        front = subst (λ i. IsEmptySlot i p) (sym (ap (λ i. front_slot w c i) e ∙ local_of w c k)) (empty_shown w c k v p s front);
-        access = record { made = ap (λ i. offered g.0 i (needed.Rmw word Sc operand labels) 0 false) m; seen_is = refl };
-      };
-      shows = subst (λ i. Shows w c (changed_local v k (record x { core = core; reserved = None })) (change i (record (p.harts i) { core = core; reserved = None }) p)) (sym e)
-          (shows_change w c v p k (record x { core = core; reserved = None }) (record (p.harts (hart_at w c k)) { core = core; reserved = None }) low sized.locals s
-          (record { core = refl; reserved = refl; buffer = hart.buffer; asked = hart.asked; l1 = hart.l1 }));
-      sent_is = refl;
-    } };
+  does = record {
+    done = effect (needed.Rmw word Sc operand labels) core;
+    happens = λ p s.
+        let hart = shown_by w c v k x p low s (sym is) in
+        let m : n ≡ number_of g.0 p = number ∙ number_there w c k g.0 v x p e low s is in
+        record {
+          guard = record {
+            operand = operand;
+            labels = labels;
+            next = part_does w c k g.0 1 (needed.Rmw word Sc operand labels) x core (p.harts (hart_at w c k)) p e low refl hart.core (does_by w v k 1 (needed.Rmw word Sc operand labels) x core needs is does);
+            unreserved = λ r. unreserved (sym hart.reserved ∙ subst (λ i. (p.harts i).reserved ≡ Some word.0) e r);
+            front = subst (λ i. IsEmptySlot i p) (sym (ap (λ i. front_slot w c i) e ∙ local_of w c k)) (empty_shown w c k v p s front);
+            access = record { made = ap (λ i. offered g.0 i (needed.Rmw word Sc operand labels) 0 false) m; seen_is = refl };
+          };
+          shows = subst (λ i. Shows w c (changed_local v k (record x { core = core; reserved = None })) (change i (record (p.harts i) { core = core; reserved = None }) p)) (sym e)
+              (shows_change w c v p k (record x { core = core; reserved = None }) (record (p.harts (hart_at w c k)) { core = core; reserved = None }) low sized.locals s
+              (record { core = refl; reserved = refl; buffer = hart.buffer; asked = hart.asked; l1 = hart.l1 }));
+          sent_is = refl;
+        };
+  };
 }
 
 none_of : {A : Type 0} (o : Option A) → is_some o ≡ false → o ≡ None

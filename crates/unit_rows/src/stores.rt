@@ -15,7 +15,14 @@ use dash_event::{Kind, offer};
 use write_buffer::Entry;
 
 /// A store, which then waits in its hart's buffer. `None` where the buffer is full.
-pub fn store(site: &Site, parts: &mut Parts, hart: u32, word: WordAddr, mask: Mask, value: u32) -> Option<Kind>
+pub fn store(
+    site: &Site,
+    parts: &mut Parts,
+    hart: u32,
+    word: WordAddr,
+    mask: Mask,
+    value: u32,
+) -> Option<Kind>
     requires sized { AreSized (config site.now) site.now.cluster.0 (shown parts.old) }
     requires hart { hart < site.now.topology.harts }
     requires need { HartNeeds (config site.now) (shown parts.old) hart (Store word mask value) }
@@ -45,7 +52,14 @@ pub fn store(site: &Site, parts: &mut Parts, hart: u32, word: WordAddr, mask: Ma
 
 /// An SC of a word that its hart has not reserved: it fails. `None` while the hart's front slot is not
 /// empty.
-pub fn sc_fail(site: &Site, parts: &mut Parts, hart: u32, word: WordAddr, operand: u32, labels: Labels) -> Option<Kind>
+pub fn sc_fail(
+    site: &Site,
+    parts: &mut Parts,
+    hart: u32,
+    word: WordAddr,
+    operand: u32,
+    labels: Labels,
+) -> Option<Kind>
     requires sized { AreSized (config site.now) site.now.cluster.0 (shown parts.old) }
     requires hart { hart < site.now.topology.harts }
     requires need { HartNeeds (config site.now) (shown parts.old) hart (Rmw word Sc operand labels) }

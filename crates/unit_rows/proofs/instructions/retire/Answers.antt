@@ -1,8 +1,4 @@
-use Rattle.std.proofs.Common.{sym, subst}
-use Rattle.std.specs.Bool.{IsTrue}
-use Rattle.unit_rows.specs.declared.parts.Local.{Local}
 use Rattle.unit_rows.specs.Shown.{config, shown}
-use Rattle.hart_core.specs.HartState.{can_go_on}
 use Rattle.unit_rows.proofs.Retiring.{retired_from, sized_local, capacity_of, goes_on}
 use Rattle.unit_rows.proofs.instructions.retire.Goals as goal
 

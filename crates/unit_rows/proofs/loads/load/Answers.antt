@@ -1,12 +1,12 @@
-use Rattle.std.proofs.Common.{◌≡◌, ◌≢◌, ℕ, ◌+◌, ◌<◌, length, slice_index_or, sym, ap, ◌∙◌, subst, arith}
-use Rattle.std.proofs.Common.{Bool, true, false}
+use Rattle.std.proofs.Common.{◌≡◌, ◌<◌, sym, ap, ◌∙◌, subst}
+use Rattle.std.proofs.Common.{true, false}
 use Rattle.write_buffer.specs.Look.{newest_of, look_by}
 use Rattle.write_buffer.specs.declared.entry.Look.TheVariants.{Hit, Wait}
 use Rattle.dash_base.specs.declared.need.Need.TheVariants.{Load}
 use Rattle.unit_rows.specs.Steps.{HartNeeds}
 use Rattle.unit_rows.specs.declared.parts.Local.{Local}
 use Rattle.unit_rows.specs.Shown.{config, shown}
-use Rattle.unit_rows.proofs.Retiring.{same_local, one_local, goes_on, sized_local, capacity_of}
+use Rattle.unit_rows.proofs.Retiring.{one_local}
 use Rattle.unit_rows.proofs.LoadRows.{load_cannot}
 use Rattle.unit_rows.proofs.loads.load.Goals as goal
 

@@ -1,14 +1,11 @@
-use Rattle.std.proofs.Common.{◌≡◌, ◌≢◌, ℕ, ◌+◌, ◌<◌, length, slice_index_or, sym, ap, ◌∙◌, subst, arith}
-use Rattle.std.proofs.Common.{Bool, true, false, Option, None}
+use Rattle.std.proofs.Common.{◌≡◌, ◌+◌, ◌<◌, slice_index_or, sym, ap, ◌∙◌, subst}
+use Rattle.std.proofs.Common.{false, None}
 use Rattle.dash_base.specs.declared.id.LineId.{LineId}
-use Rattle.snoop_bus.specs.View.{is_holder, hart_read_of, after_hart_read}
+use Rattle.snoop_bus.specs.View.{is_holder, hart_read_of}
 use Rattle.write_buffer.specs.Look.{newest_of, look_by}
-use Rattle.write_buffer.specs.declared.entry.Look.TheVariants.{Hit, Wait}
-use Rattle.dash_base.specs.declared.need.Need.TheVariants.{Load}
-use Rattle.unit_rows.specs.Steps.{HartNeeds}
 use Rattle.unit_rows.specs.declared.parts.Local.{Local}
-use Rattle.unit_rows.specs.Shown.{PartsView, config, shown, AreSized}
-use Rattle.unit_rows.proofs.Retiring.{same_local, one_local, goes_on, sized_local, capacity_of}
+use Rattle.unit_rows.specs.Shown.{config, shown, AreSized}
+use Rattle.unit_rows.proofs.Retiring.{same_local, goes_on, capacity_of}
 use Rattle.unit_rows.proofs.LoadRows.{held_as, sized_read, held_cannot, no_read_tells, no_read_keeps, if_none}
 use Rattle.unit_rows.proofs.loads.load_held.Goals as goal
 

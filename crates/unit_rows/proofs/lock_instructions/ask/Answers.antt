@@ -1,4 +1,4 @@
-use Rattle.std.proofs.Common.{◌+◌, sym, ap, ◌∙◌}
+use Rattle.std.proofs.Common.{◌+◌, ap}
 use Rattle.unit_rows.specs.Shown.{config, shown}
 use Rattle.unit_rows.proofs.Retiring.{sized_local, capacity_of}
 use Rattle.unit_rows.proofs.LockSends.{does_ask, ask_cannot}
@@ -15,5 +15,5 @@ returns-clause-did c =
 
 pub returns-clause-sized : goal.returns-clause-sized
 returns-clause-sized c =
-    sized_local (config c.args.site.now) c.args.site.now.cluster.0  (shown c.args.parts.now) c.args.hart _ c.requires.hart c.requires.sized
-    (capacity_of (config c.args.site.now) c.args.site.now.cluster.0  (shown c.args.parts.now) c.args.hart c.index_mut.result.now c.requires.hart c.requires.sized c.index_mut.ensures.value)
+    sized_local (config c.args.site.now) c.args.site.now.cluster.0 (shown c.args.parts.now) c.args.hart _ c.requires.hart c.requires.sized
+    (capacity_of (config c.args.site.now) c.args.site.now.cluster.0 (shown c.args.parts.now) c.args.hart c.index_mut.result.now c.requires.hart c.requires.sized c.index_mut.ensures.value)

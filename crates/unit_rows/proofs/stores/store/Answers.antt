@@ -1,7 +1,7 @@
-use Rattle.std.proofs.Common.{◌≡◌, ◌≢◌, ℕ, ◌+◌, ◌<◌, length, Some, is_some, sym, ap, ◌∙◌, subst, arith}
+use Rattle.std.proofs.Common.{◌≡◌, ◌+◌, ◌<◌, length, sym, ap, ◌∙◌, subst, arith}
 use Rattle.unit_rows.specs.declared.parts.Local.{Local}
-use Rattle.unit_rows.specs.Shown.{config, shown, reserved_by}
-use Rattle.unit_rows.proofs.Retiring.{same_local, goes_of, goes_on, sized_local, capacity_of}
+use Rattle.unit_rows.specs.Shown.{config, shown}
+use Rattle.unit_rows.proofs.Retiring.{same_local, goes_on, sized_local, capacity_of}
 use Rattle.unit_rows.proofs.StoreRows.{put_done, does_store, store_cannot}
 use Rattle.unit_rows.proofs.stores.store.Goals as goal
 
