@@ -20,3 +20,6 @@ pub mod Drained
 pub mod StepTold
 pub mod PlainSteps
 pub mod LockSends
+pub mod EmptySlots
+pub mod StoreRows
+pub mod LoadRows

@@ -9,13 +9,12 @@ use Rattle.dash_msg.specs.declared.msg.Msg.{Msg}
 use Rattle.dash_msg.specs.declared.msg.Msg.TheVariants.{LockAsk, Unlock}
 use Rattle.dash_event.specs.declared.event.Kind.TheVariants as kind
 use Rattle.fence_release.specs.Conditions.{is_drained}
-use Rattle.hart_core.specs.HartState.{HartState}
 use Rattle.hart_core.specs.Meaning.{Needs}
 use Rattle.dash_model.specs.Config.{Config, cluster_of, lock_at, lock_home}
 use Rattle.dash_model.specs.Net.{to}
 use Rattle.dash_model.specs.Part.{Part}
 use Rattle.dash_model.specs.HartRows.{lock_target}
-use Rattle.dash_model.specs.HartGuards.{Drained, LockSends, number_of}
+use Rattle.dash_model.specs.HartGuards.{Drained, LockSends}
 use Rattle.dash_model.specs.HartRows.{change}
 use Rattle.dash_model.specs.Guard.{Guard}
 use Rattle.dash_model.specs.Row.{row}
@@ -26,7 +25,7 @@ use Rattle.unit_rows.specs.Steps.{HartNeeds, changed_local}
 use Rattle.unit_rows.specs.Rows.{DoesChoice, Cannot}
 use Rattle.unit_rows.proofs.Harts.{shows_change}
 use Rattle.unit_rows.proofs.Drained.{drained_shown, drained_back}
-use Rattle.unit_rows.proofs.Retiring.{effect, part_needs, shown_by, same_local, cluster-hart_at}
+use Rattle.unit_rows.proofs.Retiring.{effect, part_needs, shown_by, same_local, number_there, cluster-hart_at}
 use Rattle.unit_rows.proofs.StepTold.{step_told}
 
 -- what the lemma on both messages takes of one: its need, what it is on a part, and where it goes
@@ -40,20 +39,23 @@ send_from : (w : Config) (c k : ℕ) (g : HartId) (m : Msg) (need : Need) (t : C
 unfolding Guard row
 send_from w c k g m need t v x a e low sized is unsent = record {
   is_of = e;
-  does = record { done = effect need x.core; happens = λ p s.
-    let hart = shown_by w c v k x p low s (sym is) in
-    record {
-      guard = record {
-        mine = ap (cluster_of w) e ∙ cluster-hart_at w c k low;
-        need = need;
-        needs = subst (λ i. Needs w.image w.top (p.harts i).core need) (sym e) (part_needs w c v k need x p low s a.needs);
-        unsent = ap (λ i. (p.harts i).asked) e ∙ hart.asked ∙ unsent;
-        sends = a.sends p s;
-      };
-      shows = subst (λ i. Shows w c (changed_local v k (record x { asked = true })) (change i (record (p.harts i) { asked = true }) p)) (sym e)
-          (shows_change w c v p k (record x { asked = true }) (record (p.harts (hart_at w c k)) { asked = true }) low sized.locals s (record { core = hart.core; reserved = hart.reserved; buffer = hart.buffer; asked = refl; l1 = hart.l1 }));
-      sent_is = ap (λ n. to n m ∷ []) (sym a.target);
-    } };
+  does = record {
+    done = effect need x.core;
+    happens = λ p s.
+        let hart = shown_by w c v k x p low s (sym is) in
+        record {
+          guard = record {
+            mine = ap (cluster_of w) e ∙ cluster-hart_at w c k low;
+            need = need;
+            needs = subst (λ i. Needs w.image w.top (p.harts i).core need) (sym e) (part_needs w c v k need x p low s a.needs);
+            unsent = ap (λ i. (p.harts i).asked) e ∙ hart.asked ∙ unsent;
+            sends = a.sends p s;
+          };
+          shows = subst (λ i. Shows w c (changed_local v k (record x { asked = true })) (change i (record (p.harts i) { asked = true }) p)) (sym e)
+              (shows_change w c v p k (record x { asked = true }) (record (p.harts (hart_at w c k)) { asked = true }) low sized.locals s (record { core = hart.core; reserved = hart.reserved; buffer = hart.buffer; asked = refl; l1 = hart.l1 }));
+          sent_is = ap (λ n. to n m ∷ []) (sym a.target);
+        };
+  };
 }
 
 -- the same, where the hart was read twice
@@ -61,10 +63,6 @@ does_send : (w : Config) (c k : ℕ) (g : HartId) (m : Msg) (need : Need) (t : C
     → DoesChoice w c (Step k) (kind.LockSend g m) v (changed_local v k (record y { asked = true })) (record { to = t; msg = m } ∷ [])
 does_send w c k g m need t v x y a e low sized is as_well unsent =
     subst (λ (z : Local). DoesChoice w c (Step k) (kind.LockSend g m) v (changed_local v k (record z { asked = true })) (record { to = t; msg = m } ∷ [])) (same_local v k x y (subst (λ n. k < n) (sym sized.locals) low) is as_well) (send_from w c k g m need t v x a e low sized is unsent)
-
--- the number of the hart's instruction
-number_there : (w : Config) (c k h : ℕ) (v : PartsView) (x : Local) (p : Part) → h ≡ hart_at w c k → k < w.top.harts → Shows w c v p → x ≡ slice_index_or v.locals k x → x.core.retired + 1 ≡ number_of h p
-number_there w c k h v x p e low s is = ap (λ (y : HartState). y.retired + 1) (sym (shown_by w c v k x p low s (sym is)).core) ∙ sym (ap (λ i. number_of i p) e)
 
 pub does_ask : (w : Config) (c k n value : ℕ) (g : HartId) (word : WordAddr) (t : ClusterId) (v : PartsView) (x y : Local) → g.0 ≡ hart_at w c k → k < w.top.harts → AreSized w c v → HartNeeds w v k (needed.Ask word value)
     → x ≡ slice_index_or v.locals k x → y ≡ slice_index_or v.locals k y → x.asked ≡ false → n ≡ x.core.retired + 1 → t.0 ≡ lock_home w (lock_at w word.0)

@@ -50,9 +50,12 @@ pub does_fence : (w : Config) (c k pc : ℕ) (waits : Bool) (g : HartId) (v z : 
 unfolding Guard row
 does_fence w c k pc waits g v z x r e low sized n is may = record {
   is_of = e;
-  does = record { done = effect (needed.Fence waits) r.core; happens = λ p s.
-    let q = plain_step w c k g.0 pc (needed.Fence waits) v z p r e low sized n s in
-    record { guard = record { waits = waits; next = q.at; passes = passes w c k g.0 waits v x p e low s (sym is) may }; shows = q.shows; sent_is = refl } };
+  does = record {
+    done = effect (needed.Fence waits) r.core;
+    happens = λ p s.
+        let q = plain_step w c k g.0 pc (needed.Fence waits) v z p r e low sized n s in
+        record { guard = record { waits = waits; next = q.at; passes = passes w c k g.0 waits v x p e low s (sym is) may }; shows = q.shows; sent_is = refl };
+  };
 }
 
 -- and it can't where neither is so

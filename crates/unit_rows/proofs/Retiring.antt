@@ -1,5 +1,9 @@
 -- A hart that retires an instruction: which hart it is, what it does, and what its part shows then.
+<<<<<<< HEAD
 use Rattle.std.proofs.Common.{◌≡◌, ℕ, ◌<◌, length, slice_index_or, slice_set, refl, sym, ap, ◌∙◌, subst, inl, inr}
+=======
+use Rattle.std.proofs.Common.{◌≡◌, ℕ, ◌+◌, ◌<◌, length, slice_index_or, slice_set, refl, sym, ap, ◌∙◌, subst, inl, inr}
+>>>>>>> 779d1baf6cb20b8ff91a2b226c68ec6ddcab9857
 use Rattle.std.proofs.Math.ListN.{length-set}
 use Rattle.std.proofs.lemmas.Nat.{div-mul-add}
 use Rattle.std.proofs.lemmas.List.{get_or_read, get_or-set_same, get_or-set_other}
@@ -12,7 +16,11 @@ use Rattle.hart_core.specs.Meaning.{Needs, Does, IsNext, NeedsIf}
 use Rattle.dash_model.specs.Config.{Config, cluster_of}
 use Rattle.dash_model.specs.Part.{Processor, Part}
 use Rattle.dash_model.specs.HartRows.{HartEffect, retire}
+<<<<<<< HEAD
 use Rattle.dash_model.specs.HartGuards.{Retires, RetiresAt}
+=======
+use Rattle.dash_model.specs.HartGuards.{Retires, RetiresAt, number_of}
+>>>>>>> 779d1baf6cb20b8ff91a2b226c68ec6ddcab9857
 use Rattle.unit_rows.specs.declared.parts.Local.{Local}
 use Rattle.unit_rows.specs.Shown.{PartsView, hart_at, ShowsHart, Shows, AreSized}
 use Rattle.unit_rows.specs.Steps.{HartNeeds, HartGoes, changed_local, Retired}
@@ -92,6 +100,10 @@ part_needs w c v k need x p low s n = subst (λ y. Needs w.image w.top y need) (
 
 pub shown_by : (w : Config) (c : ℕ) (v : PartsView) (k : ℕ) (x : Local) (p : Part) → k < w.top.harts → Shows w c v p → slice_index_or v.locals k x ≡ x → ShowsHart w v.bus k x (p.harts (hart_at w c k))
 shown_by w c v k x p low s is = subst (λ y. ShowsHart w v.bus k y (p.harts (hart_at w c k))) is (s.harts k x low)
+
+-- the number of the hart's instruction
+pub number_there : (w : Config) (c k h : ℕ) (v : PartsView) (x : Local) (p : Part) → h ≡ hart_at w c k → k < w.top.harts → Shows w c v p → x ≡ slice_index_or v.locals k x → x.core.retired + 1 ≡ number_of h p
+number_there w c k h v x p e low s is = ap (λ (y : HartState). y.retired + 1) (sym (shown_by w c v k x p low s (sym is)).core) ∙ sym (ap (λ i. number_of i p) e)
 
 -- on a part, the hart of an event does its instruction
 pub part_does : (w : Config) (c k h answer : ℕ) (need : Need) (x : Local) (core : HartState) (s : Processor) (p : Part) → h ≡ hart_at w c k → k < w.top.harts → p.harts (hart_at w c k) ≡ s → s.core ≡ x.core

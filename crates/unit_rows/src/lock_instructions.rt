@@ -23,7 +23,13 @@ fn home_of_lock(site: &Site, word: WordAddr) -> ClusterId
 }
 
 /// An instruction that takes a lock word. `None` where its message was sent before.
-pub fn ask(site: &Site, parts: &mut Parts, hart: u32, word: WordAddr, value: u32) -> Option<(Kind, Sent)>
+pub fn ask(
+    site: &Site,
+    parts: &mut Parts,
+    hart: u32,
+    word: WordAddr,
+    value: u32,
+) -> Option<(Kind, Sent)>
     requires sized { AreSized (config site.now) site.now.cluster.0 (shown parts.old) }
     requires hart { hart < site.now.topology.harts }
     requires need { HartNeeds (config site.now) (shown parts.old) hart (Ask word value) }

@@ -19,5 +19,5 @@ returns-clause-did c =
 
 pub returns-clause-sized : goal.returns-clause-sized
 returns-clause-sized c =
-    sized_local (config c.args.site.now) c.args.site.now.cluster.0  (shown c.args.parts.now) c.args.hart _ c.requires.hart c.requires.sized
-    (capacity_of (config c.args.site.now) c.args.site.now.cluster.0  (shown c.args.parts.now) c.args.hart c.index_mut.result.now c.requires.hart c.requires.sized c.index_mut.ensures.value)
+    sized_local (config c.args.site.now) c.args.site.now.cluster.0 (shown c.args.parts.now) c.args.hart _ c.requires.hart c.requires.sized
+    (capacity_of (config c.args.site.now) c.args.site.now.cluster.0 (shown c.args.parts.now) c.args.hart c.index_mut.result.now c.requires.hart c.requires.sized c.index_mut.ensures.value)
