@@ -15,3 +15,4 @@ pub mod BusTurns
 pub mod SlotsOn
 pub mod AcksOn
 pub mod LockAnswers
+pub mod LockServes
