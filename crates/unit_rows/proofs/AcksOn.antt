@@ -1,11 +1,11 @@
 -- An entry of acknowledgements that changes, seen from the lines: the entry of its line, and that of each other line.
-use Rattle.std.proofs.Common.{◌≡◌, ◌≢◌, ℕ, ◌<◌, ◌==◌, ◌||◌, Bool, true, false, cond, Option, None, Some, List, [], is_some, option_and_then, refl, sym, ap, ◌∙◌, arith}
-use Rattle.ack_counter.specs.View.{Counted, TableView, entry_at, owes, owes_if, owes_at, is_pending, owed_to}
+use Rattle.std.proofs.Common.{◌≡◌, ◌≢◌, ℕ, ◌<◌, ◌==◌, ◌||◌, false, cond, Option, None, Some, [], is_some, option_and_then, refl, sym, ap, ◌∙◌}
+use Rattle.ack_counter.specs.View.{Counted, TableView, entry_at, owes, owes_if}
 use Rattle.ack_counter.specs.Steps.{fresh, also_owed, begun, owing}
-use Rattle.ack_counter.proofs.LawsOffered.{entry_at-with_entry, entry_at-changed, owes-fresh, owes-also_owed, owed_is_by_line}
-use Rattle.dash_model.specs.Maps.{member, with_member}
+use Rattle.ack_counter.proofs.LawsOffered.{entry_at-with_entry, entry_at-changed, owes-fresh, owes-also_owed}
+use Rattle.dash_model.specs.Maps.{with_member}
 use Rattle.dash_model.specs.Config.{Config}
-use Rattle.dash_model.specs.Cell.{Acks, NoAcks, Counting, Expects}
+use Rattle.dash_model.specs.Cell.{NoAcks, Counting, Expects}
 use Rattle.dash_model.specs.Words.{owes as is_owed}
 use Rattle.dash_model.specs.Acts.{owe}
 use Rattle.unit_rows.specs.Shown.{hart_at, harts_by, counted_by, acks_by}

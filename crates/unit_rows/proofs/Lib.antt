@@ -9,3 +9,8 @@ pub mod Swept
 pub mod BusTurns
 pub mod SlotsOn
 pub mod AcksOn
+pub mod StateM
+pub mod NoInstruction
+pub mod OneHart
+pub mod Sized
+pub mod CommitRow

@@ -5,3 +5,5 @@ pub mod Rows
 pub mod Sweeps
 pub mod Local
 pub mod Opening
+pub mod Held
+pub mod CommitFits

@@ -8,5 +8,7 @@ pub use parts::{Local, Parts};
 pub use site::Site;
 
 mod choice;
+mod held;
+mod line_words;
 mod parts;
 mod site;
