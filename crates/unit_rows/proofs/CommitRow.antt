@@ -27,7 +27,9 @@ use Rattle.unit_rows.proofs.Harts.{with_local, shows_change}
 use Rattle.unit_rows.proofs.Lines.{shows_line}
 use Rattle.unit_rows.proofs.Swept.{none_leave, harts_stay}
 use Rattle.unit_rows.proofs.BusTurns.{rewritten-copy_by, content-copy_by, with_line, line_turns}
-use Rattle.unit_rows.proofs.AcksOn.{owing-acks, owing-elsewhere}
+use Rattle.unit_rows.proofs.AcksOn.{owing-acks, owing-elsewhere, owing_range, owing_capacity}
+use Rattle.unit_rows.proofs.Sized.{set_sizes, sized_line}
+use Rattle.dash_base.specs.Places.{line_count}
 use Rattle.unit_rows.proofs.StateM.{has_owner_alone, in_m-owns_alone}
 use Rattle.unit_rows.proofs.OneHart.{shown_hart, one_local, cluster_is, head_of}
 use Rattle.unit_rows.proofs.NoInstruction.{no_instruction}
@@ -100,3 +102,10 @@ commits w c k v e d next h l x locals b acks f low sized map h_is l_is next_is x
     rw (locals_is, b_is, acks_is, one_local v.locals k x f.local (subst (λ n. k < n) (sym sized.locals) low) x_is f.is_local, h_is, l_is, next_is)
     (let base : DoesChoice w c (Commit k) (kind.Commit (hart_id (hart_at w c k)) e.number (line_id (line_at w e.word.0)) (written_in w e.word.0 e.mask e.value d).version) v (after v k f.local (line_at w e.word.0) (written_in w e.word.0 e.mask e.value d)) [] =
         record { is_of = refl; does = record { done = no_instruction w; happens = happens w c k v e d f low sized map } } in base)
+
+pub sized_committed : (w : Config) (c k : ℕ) (v : PartsView) (next : Line) (l : ℕ) (x : Local) (locals : List Local) (b : BusView) (acks : TableView) → k < w.top.harts → AreSized w c v → x ≡ slice_index_or v.locals k x
+    → locals ≡ slice_set v.locals k (committed x) → b ≡ after_commit v.bus l next → acks ≡ owing v.acks l k → AreSized w c (with_line v locals b v.slots acks)
+sized_committed w c k v next l x locals b acks low sized here locals_is b_is acks_is =
+    rw (locals_is, b_is, acks_is)
+    (let base : AreSized w c (after v k x l next) =
+        sized_line w c v (slice_set v.locals k (committed x)) nobody l (rewritten next (holding_at v.bus l)) v.slots (owing v.acks l k) sized (set_sizes w v.locals k (committed x) x (subst (λ n. k < n) (sym sized.locals) low) here refl) refl refl sized.slots_in_range (owing_capacity v.acks l k) (owing_range v.acks l k (line_count w.top) sized.acks_in_range) in base)

@@ -14,3 +14,4 @@ pub mod NoInstruction
 pub mod OneHart
 pub mod Sized
 pub mod CommitRow
+pub mod CommitFits

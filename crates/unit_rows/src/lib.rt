@@ -8,6 +8,7 @@ pub use parts::{Local, Parts};
 pub use site::Site;
 
 mod choice;
+mod commit;
 mod held;
 mod line_words;
 mod parts;
