@@ -1,27 +1,23 @@
 -- Changes of a line on the bus: what each makes of the line's copy, and of all that the parts show.
-use Rattle.std.proofs.Common.{◌≡◌, ◌≢◌, ℕ, ◌<◌, ◌≤◌, ◌==◌, ◌&&◌, ◌||◌, Bool, true, false, cond, not, Option, None, Some, List, [], ◌∷◌, slice_index_or, refl, sym, ap, ap₂, ◌∙◌, subst, is_some, arith}
-use Rattle.std.proofs.lemmas.Bool.Decides.{nat_tests}
+use Rattle.std.proofs.Common.{◌≡◌, ◌≢◌, ℕ, ◌<◌, Bool, true, false, cond, Option, None, Some, List, [], ◌∷◌, slice_index_or, refl, sym, ap, ◌∙◌, is_some}
 use Rattle.dash_base.specs.declared.line.Line.{Line}
 use Rattle.snoop_bus.specs.Holding.{Holding, has_hart, alone, with_hart, without_hart, holders_in, owner_in, copy_in, joined_by, owned_by, rewritten, left_by, disowned, IsProperHolding}
 use Rattle.snoop_bus.specs.Holding as bus
 use Rattle.snoop_bus.specs.View.{BusView, holding_at, changed}
-use Rattle.snoop_bus.proofs.LawsOffered.{has_hart-without_hart, has_hart-zero, holding_at-changed}
+use Rattle.snoop_bus.proofs.LawsOffered.{holding_at-changed}
 use Rattle.ack_counter.specs.View.{TableView, entry_at}
 use Rattle.remote_cache.specs.View.{SlotsView}
-use Rattle.dash_model.specs.Maps.{member, without}
 use Rattle.dash_model.specs.Config.{Config}
-use Rattle.dash_model.specs.Cell.{Copy, NoCopy, Held}
+use Rattle.dash_model.specs.Cell.{Held}
 use Rattle.dash_model.specs.Part.{Part}
-use Rattle.dash_model.specs.LineEffect.{LineEffect, has_owner, is_owner}
+use Rattle.dash_model.specs.LineEffect.{LineEffect}
 use Rattle.dash_model.specs.HartRows.{cleared_where_lost}
 use Rattle.dash_model.specs.Words.{content}
-use Rattle.dash_model.specs.Acts.{commit_copy, drop_hart, shrunk, bus_read, bus_own}
+use Rattle.dash_model.specs.Acts.{commit_copy, bus_read, bus_own}
 use Rattle.unit_rows.specs.declared.parts.Local.{Local}
-use Rattle.unit_rows.specs.Lists.{picked}
 use Rattle.unit_rows.specs.Shown.{PartsView, hart_at, harts_by, owner_by, copy_by, slot_on, acks_by, ShowsHart, Shows}
 use Rattle.unit_rows.proofs.Same.{test_same, test_differ}
-use Rattle.unit_rows.proofs.Lists.{without-picked, picked-same, member-picked}
-use Rattle.unit_rows.proofs.Copies.{harts_alone, harts_with, member-harts_by, harts_by-same}
+use Rattle.unit_rows.proofs.Copies.{harts_alone, harts_with}
 use Rattle.unit_rows.proofs.Lines.{Turns}
 
 -- a hart more, the only holder and owner, another content, no owner

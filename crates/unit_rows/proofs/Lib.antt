@@ -16,3 +16,9 @@ pub mod SlotsOn
 pub mod AcksOn
 pub mod LockAnswers
 pub mod LockServes
+pub mod StateM
+pub mod NoInstruction
+pub mod OneHart
+pub mod Sized
+pub mod CommitRow
+pub mod CommitFits

@@ -1,5 +1,5 @@
 -- A slot that changes, seen from the lines: the slot on its line, and that on each other line.
-use Rattle.std.proofs.Common.{◌≡◌, ◌≢◌, ◌⊎◌, ℕ, ◌<◌, ◌==◌, Bool, true, false, cond, Option, None, Some, refl, sym, ap, ◌∙◌, subst, inl, inr, arith}
+use Rattle.std.proofs.Common.{◌≡◌, ◌≢◌, ℕ, ◌<◌, ◌==◌, Bool, true, false, cond, Option, None, Some, refl, sym, ap, ◌∙◌, subst, arith}
 use Rattle.std.proofs.lemmas.Bool.Decides.{nat_tests}
 use Rattle.remote_cache.specs.declared.slot.Slot.{Slot as Request}
 use Rattle.remote_cache.specs.View.{SlotsView, count, slot_at, slot_of, with_slot, is_of, IsOnePerLine}
@@ -7,7 +7,7 @@ use Rattle.remote_cache.proofs.LawsOffered.{lines_have_one_slot, set_slots_stand
 use Rattle.dash_model.specs.Config.{Config}
 use Rattle.dash_model.specs.Cell.{NoSlot}
 use Rattle.unit_rows.specs.Shown.{slot_by, slot_in, slot_on}
-use Rattle.unit_rows.proofs.Same.{test_same, test_differ}
+use Rattle.unit_rows.proofs.Same.{test_same}
 
 -- which slot has a line, by what slots have
 pub slot_is : (w : Config) (c : ℕ) (v : SlotsView) (l n : ℕ) → IsOnePerLine v.slots → is_of l (slot_at v n) ≡ true → slot_on w c v l ≡ slot_by w c n (slot_at v n)

@@ -7,3 +7,5 @@ pub mod Local
 pub mod Opening
 pub mod Takes
 pub mod LockWords
+pub mod Held
+pub mod CommitFits

@@ -9,6 +9,9 @@ pub use site::Site;
 
 mod choice;
 mod lock_words;
+mod commit;
+mod held;
+mod line_words;
 mod parts;
 mod served;
 mod site;
