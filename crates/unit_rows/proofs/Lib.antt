@@ -22,3 +22,8 @@ pub mod OneHart
 pub mod Sized
 pub mod CommitRow
 pub mod CommitFits
+pub mod SlotMet
+pub mod SlotRows
+pub mod AckSteps
+pub mod SlotTurns
+pub mod ReplyRows
