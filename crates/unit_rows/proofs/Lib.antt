@@ -27,3 +27,4 @@ pub mod SlotRows
 pub mod AckSteps
 pub mod SlotTurns
 pub mod ReplyRows
+pub mod AckRows

@@ -23,7 +23,7 @@ use Rattle.dash_model.specs.Ranges.{has_line, got_fits, applies}
 use Rattle.dash_model.specs.Replies.{arrive, arrive_own, expecting, expecting_for, counted, nak_slot, nak_acks}
 use Rattle.unit_rows.specs.Shown.{PartsView, slot_by, slot_in, slot_on, counted_by, acks_by, Shows, AreSized}
 use Rattle.unit_rows.specs.Takes.{Takes}
-use Rattle.unit_rows.specs.Prefetching.{owns_request, prefetch_owns_at, prefetch_owns}
+use Rattle.unit_rows.specs.Replies.{owns_request, prefetch_owns_at, prefetch_owns}
 use Rattle.unit_rows.proofs.LineTakes.{its_line, turned, TakesOn, takes_line, takes_no_line}
 use Rattle.unit_rows.proofs.SlotMet.{IsMet, is_met, OnLine, Nowhere, Somewhere, on_line}
 use Rattle.unit_rows.proofs.SlotRows.{data_same, data_ex_same, nak_same, arrive_is, arrive_own_is, nak_is, granted_met, granted_not, nak_kept, nak_not, nak_gone}

@@ -9,4 +9,4 @@ pub mod Takes
 pub mod LockWords
 pub mod Held
 pub mod CommitFits
-pub mod Prefetching
+pub mod Replies

@@ -13,5 +13,6 @@ mod commit;
 mod held;
 mod line_words;
 mod parts;
+mod replies;
 mod served;
 mod site;
