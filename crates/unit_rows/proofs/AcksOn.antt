@@ -1,15 +1,22 @@
 -- An entry of acknowledgements that changes, seen from the lines: the entry of its line, and that of each other line.
+<<<<<<< HEAD
 use Rattle.std.proofs.Common.{◌≡◌, ◌≢◌, ℕ, ◌<◌, ◌==◌, ◌||◌, false, cond, Option, None, Some, [], is_some, option_and_then, refl, sym, ap, ◌∙◌}
 use Rattle.ack_counter.specs.View.{Counted, TableView, entry_at, owes, owes_if}
 use Rattle.ack_counter.specs.Steps.{fresh, also_owed, begun, owing}
 use Rattle.ack_counter.proofs.LawsOffered.{entry_at-with_entry, entry_at-changed, owes-fresh, owes-also_owed}
+=======
+use Rattle.std.proofs.Common.{◌≡◌, ◌≢◌, ℕ, ◌<◌, ◌==◌, ◌||◌, true, false, cond, Option, None, Some, [], is_some, option_and_then, refl, sym, ap, ◌∙◌, subst, inl, inr}
+use Rattle.ack_counter.specs.View.{Counted, TableView, entry_at, owes, owes_if}
+use Rattle.ack_counter.specs.Steps.{fresh, also_owed, begun, owing}
+use Rattle.ack_counter.proofs.LawsOffered.{entry_at-with_entry, entry_at-changed, capacity-changed, owes-fresh, owes-also_owed}
+>>>>>>> ccfe80364d79401544717b4fb01e5639994cd064
 use Rattle.dash_model.specs.Maps.{with_member}
 use Rattle.dash_model.specs.Config.{Config}
 use Rattle.dash_model.specs.Cell.{NoAcks, Counting, Expects}
 use Rattle.dash_model.specs.Words.{owes as is_owed}
 use Rattle.dash_model.specs.Acts.{owe}
 use Rattle.unit_rows.specs.Shown.{hart_at, harts_by, counted_by, acks_by}
-use Rattle.unit_rows.proofs.Same.{test_same, test_differ}
+use Rattle.unit_rows.proofs.Same.{test_same, test_differ, same_or_not}
 use Rattle.unit_rows.proofs.Copies.{harts_by-same, harts_by-none, member-harts_by, with_member-harts_by}
 
 -- an entry that begins
@@ -65,3 +72,24 @@ owed_part w c k e (Some n) low = member-harts_by w c k (owes e) low
 pub owed-acks_by : (w : Config) (c k : ℕ) (o : Option Counted) → k < w.top.harts → is_owed (hart_at w c k) (acks_by w c o) ≡ owes_if o k
 owed-acks_by w c k None low = refl
 owed-acks_by w c k (Some e) low = owed_part w c k e e.expected low
+
+-- the lines of a table stay in range
+was_there : (f : Counted → Counted) (o : Option Counted) (e : Counted) → option_and_then (λ x. Some (f x)) o ≡ Some e → is_some o ≡ true
+was_there f None e is = absurd (cc)
+was_there f (Some x) e is = refl
+
+there : (t : TableView) (q n : ℕ) (o : Option Counted) → entry_at t q ≡ o → ((e : Counted) → entry_at t q ≡ Some e → q < n) → is_some o ≡ true → q < n
+there t q n None is low some = absurd (cc)
+there t q n (Some e) is low some = low e is
+
+pub owing_range : (t : TableView) (l k n : ℕ) → ((q : ℕ) (e : Counted) → entry_at t q ≡ Some e → q < n) → (q : ℕ) (e : Counted) → entry_at (owing t l k) q ≡ Some e → q < n
+owing_range t l k n low q e is = elim (same_or_not q l) [
+    | inl s ↦
+        let here : option_and_then (λ x. Some (also_owed k x)) (entry_at t l) ≡ Some e =
+            sym (entry_at-changed t l (λ x. Some (also_owed k x)) q ∙ ap (λ b. cond b (option_and_then (λ x. Some (also_owed k x)) (entry_at t l)) (entry_at t q)) (ap (λ y. y == l) s ∙ test_same l)) ∙ is in
+        subst (λ y. y < n) (sym s) (there t l n (entry_at t l) refl (low l) (was_there (also_owed k) (entry_at t l) e here))
+    | inr apart ↦ low q e (sym (owing-elsewhere t l k q apart) ∙ is)
+  ]
+
+pub owing_capacity : (t : TableView) (l k : ℕ) → (owing t l k).capacity ≡ t.capacity
+owing_capacity t l k = capacity-changed t l (λ e. Some (also_owed k e)) (entry_at t l)

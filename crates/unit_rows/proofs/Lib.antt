@@ -23,3 +23,16 @@ pub mod LockSends
 pub mod EmptySlots
 pub mod StoreRows
 pub mod LoadRows
+pub mod LockServes
+pub mod StateM
+pub mod NoInstruction
+pub mod OneHart
+pub mod Sized
+pub mod CommitRow
+pub mod CommitFits
+pub mod SlotMet
+pub mod SlotRows
+pub mod AckSteps
+pub mod SlotTurns
+pub mod ReplyRows
+pub mod AckRows

@@ -3,7 +3,7 @@ use Rattle.std.proofs.Common.{◌≡◌, ℕ, ◌<◌, ◌%◌, ◌==◌, ◌&&�
 use Rattle.std.proofs.lemmas.Bool.Decides.{nat_tests}
 use Rattle.dash_base.specs.declared.id.WordAddr.{WordAddr}
 use Rattle.snoop_bus.specs.Holding.{Holding, has_hart, holders_in}
-use Rattle.snoop_bus.specs.View.{BusView, holding_at, holders_at, in_hart_l1, harts as bus_harts, changed, IsOneMap}
+use Rattle.snoop_bus.specs.View.{BusView, holding_at, holders_at, in_hart_l1, harts as bus_harts, changed, nobody, IsOneMap}
 use Rattle.snoop_bus.proofs.LawsOffered.{in_hart_l1-changed}
 use Rattle.dash_model.specs.Maps.{upd}
 use Rattle.dash_model.specs.Config.{Config, line_at}
@@ -121,3 +121,10 @@ harts_stay w c v p l passes o next count bus_count map shows leaves next_is keep
 -- where the bus stays and the copy too, so does each hart
 pub unmoved : (w : Config) (l h : ℕ) (before next : Copy) (s : Processor) → next ≡ before → cleared_where_lost w l before next h s ≡ s
 unmoved w l h before next s same = ap (λ y. cleared_where_lost w l before y h s) same ∙ ap (λ b. cleared_if w l b s) (not_lost (held_by h before) (held_by h before) (λ e. e))
+
+-- where the holders stay, none leaves
+pub none_leave : (w : Config) (b : BusView) (l : ℕ) (o : Option Holding) → holders_in o ≡ holders_at b l → Leaves w b l o nobody
+none_leave w b l o same = record {
+  lost = λ k low has has_not. absurd (let t : has_hart (holders_in o) k ≡ true = ap (λ n. has_hart n k) same ∙ has in cc);
+  stays = λ k low has. refl;
+}

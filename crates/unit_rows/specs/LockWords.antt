@@ -1,10 +1,23 @@
 -- Lock words by their addresses, as code finds them.
-use Rattle.std.specs.Prelude.{◌≡◌, ℕ, ◌<◌, ◌%◌, true, cond, Option, Some, None, slice_index_or}
+use Rattle.std.specs.Prelude.{◌≡◌, ℕ, ◌+◌, ◌*◌, ◌<◌, ◌%◌, true, cond, Option, Some, None, [], ◌∷◌, slice_index_or}
+use Rattle.dash_base.specs.declared.id.ClusterId.{ClusterId}
 use Rattle.dash_base.specs.declared.id.HartId.{HartId}
 use Rattle.dash_base.specs.declared.id.WordAddr.{WordAddr}
 use Rattle.dash_msg.specs.declared.msg.Msg.{Msg}
-use Rattle.dash_msg.specs.declared.msg.Msg.TheVariants.{LockGrant, UnlockAck}
+use Rattle.dash_msg.specs.declared.msg.Msg.TheVariants.{LockGrant, UnlockAck, Unlock}
+use Rattle.dash_msg.specs.declared.classes.Class.TheVariants.{Request}
+use Rattle.dash_msg.specs.declared.parcel.Sent.{Sent}
+use Rattle.dash_event.specs.declared.event.Kind.{Kind}
+use Rattle.dash_model.specs.Net.{parcel}
+use Rattle.dash_model.specs.Machine.{taken}
+use Rattle.unit_rows.specs.declared.choice.Choice.TheVariants.{Grant, Take}
+use Rattle.unit_rows.specs.Rows.{DoesChoice, Cannot}
+use Rattle.dash_event.specs.declared.access.Access.{Access}
+use Rattle.dash_event.specs.declared.access.Seen.TheVariants as seen
+use Rattle.dash_base.specs.declared.need.Need.TheVariants as needed
 use Rattle.hart_core.specs.HartState.{can_go_on}
+use Rattle.queue_lock.specs.declared.waiter.Waiter.{Waiter}
+use Rattle.dash_model.specs.HartGuards.{IsAccess}
 use Rattle.dash_model.specs.Config.{Config, lock_at}
 use Rattle.dash_model.specs.Ranges.{own_lock, own_hart}
 use Rattle.unit_rows.specs.declared.parts.Local.{Local}
@@ -27,3 +40,28 @@ IsAnswer m hart answer = ⊥
 -- each hart whose lock instruction was sent has not ended, and has instructions left
 pub record AskersGoOn (w : Config) (v : PartsView) : Type 0 where
   pub goes : (k : ℕ) (d : Local) → k < w.top.harts → (slice_index_or v.locals k d).asked ≡ true → can_go_on w.top (slice_index_or v.locals k d).core ≡ true
+
+-- the address of the lock word of a number
+abbrev pub address : Config → ℕ → ℕ
+address w i = w.top.base + w.top.memory + 4 * i
+
+-- the access of a hart's Ask, and of its Unlock, which is shown this count of the word and, for an Unlock, what the word held
+pub record IsAskOf (w : Waiter) (word : WordAddr) (count : ℕ) (a : Access) : Type 0 where
+  pub access : IsAccess w.hart.0 w.number (needed.Ask word w.value) 0 true (seen.Lock count) a
+  pub word_is : a.word ≡ word
+
+pub record IsUnlockOf (h : HartId) (number : ℕ) (word : WordAddr) (old count : ℕ) (a : Access) : Type 0 where
+  pub access : IsAccess h.0 number (needed.Unlock word) old true (seen.Lock count) a
+  pub hart_is : a.hart ≡ h
+  pub number_is : a.number ≡ number
+  pub word_is : a.word ≡ word
+
+-- a lock word was granted, with one message; or none may be, and nothing changes
+abbrev pub Granted : Config → ℕ → ℕ → PartsView → PartsView → Option (Kind × Sent) → Type 0
+Granted w c i old new None = Cannot w c old (Grant i) × (new ≡ old)
+Granted w c i old new (Some done) = DoesChoice w c (Grant i) done.0 old new (done.1 ∷ [])
+
+-- a lock word was freed, with one message: what happened takes just this Unlock
+pub record Freed (w : Config) (c : ℕ) (from : ClusterId) (h : HartId) (number : ℕ) (word : WordAddr) (old new : PartsView) (done : Kind × Sent) : Type 0 where
+  pub does : DoesChoice w c (Take from Request) done.0 old new (done.1 ∷ [])
+  pub takes : (u : ℕ) → taken c u done.0 ≡ parcel from.0 c (Unlock h number word) u ∷ []

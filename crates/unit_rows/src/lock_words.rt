@@ -1,17 +1,21 @@
 //! Lock words: who asks for them, and to whom they are granted.
-ghost use Rattle.std.specs.Prelude.{◌≡◌, []};
+ghost use Rattle.std.specs.Prelude.{◌≡◌, [], true};
 ghost use Rattle.dash_base.specs.declared.id.ClusterId.{ClusterId as Sender};
 ghost use Rattle.dash_msg.specs.declared.msg.Msg.{Msg as Message};
 ghost use Rattle.dash_msg.specs.declared.msg.Msg.TheVariants.{LockAsk};
 ghost use Rattle.dash_model.specs.Ranges.{has_hart};
 ghost use Rattle.unit_rows.specs.Shown.{config, shown, AreSized};
-ghost use Rattle.unit_rows.specs.LockWords.{own_number, own_hart_number, IsAnswer, AskersGoOn};
+ghost use Rattle.queue_lock.specs.View.{is_own};
+ghost use Rattle.unit_rows.specs.LockWords.{own_number, own_hart_number, IsAnswer, AskersGoOn, address, IsAskOf, IsUnlockOf, Granted, Freed};
+ghost use Rattle.dash_model.specs.Guard.{frees};
 ghost use Rattle.unit_rows.specs.Takes.{Takes};
 
 use crate::parts::Parts;
 use crate::site::Site;
-use dash_base::{HartId, WordAddr, home_among};
-use queue_lock::Waiter;
+use dash_base::{ClusterId, HartId, Need, WordAddr, home_among};
+use dash_event::{Access, Kind, Seen, offer};
+use dash_msg::{Msg, Sent};
+use queue_lock::{Locks, Waiter};
 
 /// Whether the machine has a hart.
 pub fn has_hart(site: &Site, hart: HartId) -> bool
@@ -87,4 +91,101 @@ pub fn answer(site: &Site, parts: &mut Parts, hart: HartId, answer: u32)
     let local = &mut parts.locals[number as usize];
     local.core.finish(&site.image, &site.topology, answer);
     local.asked = false;
+}
+
+/// The address of a lock word of this home, by its number.
+fn address(site: &Site, locks: &Locks, number: u32) -> WordAddr
+    requires sized { locks.now.locks ≡ site.now.topology.locks }
+    requires own { is_own locks.now number ≡ true }
+    ensures { result.0 ≡ address (config site.now) number }
+{
+    WordAddr(site.topology.base + site.topology.memory + 4 * number)
+}
+
+/// The access of an Ask that is granted, where the word was granted or freed so often.
+fn ask_access(waiter: &Waiter, word: WordAddr, count: u64) -> Access
+    ensures { IsAskOf waiter.now word count result }
+{
+    let need = Need::Ask {
+        word,
+        value: waiter.value,
+    };
+    let access = offer(waiter.hart, waiter.number, &need, 0, true).unwrap();
+    Access {
+        seen: Seen::Lock(count),
+        ..access
+    }
+}
+
+/// The access of an Unlock, where the word held this, and was granted or freed so often.
+fn unlock_access(hart: HartId, number: u32, word: WordAddr, old: u32, count: u64) -> Access
+    ensures { IsUnlockOf hart number word old count result }
+{
+    let access = offer(hart, number, &Need::Unlock { word }, old, true).unwrap();
+    Access {
+        seen: Seen::Lock(count),
+        ..access
+    }
+}
+
+/// Grants a lock word, where it is one of this home that is 0 and for which a hart waits. The answer is
+/// what happened, and the message to that hart; `None` where that can't be.
+pub fn grant(site: &Site, parts: &mut Parts, number: u32) -> Option<(Kind, Sent)>
+    requires { AreSized (config site.now) site.now.cluster.0 (shown parts.old) }
+    ensures did { Granted (config site.now) site.now.cluster.0 number (shown parts.old) (shown parts.new) result }
+    ensures sized { AreSized (config site.now) site.now.cluster.0 (shown parts.new) }
+{
+    if !parts.locks.is_own(number) {
+        return None;
+    }
+    if !parts.locks.ready(number) {
+        return None;
+    }
+    let word = address(site, &parts.locks, number);
+    let count = parts.locks.served(number);
+    let waiter = parts.locks.grant(number);
+    let access = ask_access(&waiter, word, count);
+    Some((
+        Kind::Grant { access },
+        Sent {
+            to: site.topology.cluster_of(waiter.hart),
+            msg: Msg::LockGrant { hart: waiter.hart },
+        },
+    ))
+}
+
+/// Whether an Unlock is this home's to serve: its hart is one of the machine, and its word a lock word
+/// of this home.
+pub fn is_free(site: &Site, hart: HartId, word: WordAddr) -> bool
+    ensures { result ≡ frees (config site.now) site.now.cluster.0 hart word }
+{
+    has_hart(site, hart) && own_number(site, word).is_some()
+}
+
+/// Takes an Unlock that is this home's to serve, as `is_free` says: the word is 0. The answer is what
+/// happened, and the message that tells the hart what the word held.
+pub fn free(
+    site: &Site,
+    parts: &mut Parts,
+    from: ClusterId,
+    hart: HartId,
+    number: u32,
+    word: WordAddr,
+) -> (Kind, Sent)
+    requires sized { AreSized (config site.now) site.now.cluster.0 (shown parts.old) }
+    requires serves { frees (config site.now) site.now.cluster.0 hart word ≡ true }
+    ensures did { Freed (config site.now) site.now.cluster.0 from hart number word (shown parts.old) (shown parts.new) result }
+    ensures sized { AreSized (config site.now) site.now.cluster.0 (shown parts.new) }
+{
+    let place = own_number(site, word).unwrap();
+    let count = parts.locks.served(place);
+    let old = parts.locks.free(place);
+    let access = unlock_access(hart, number, word, old, count);
+    (
+        Kind::Free { from, access },
+        Sent {
+            to: site.topology.cluster_of(hart),
+            msg: Msg::UnlockAck { hart, old },
+        },
+    )
 }
