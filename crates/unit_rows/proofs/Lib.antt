@@ -15,3 +15,10 @@ pub mod OneHart
 pub mod Sized
 pub mod CommitRow
 pub mod CommitFits
+pub mod LineNeeds
+pub mod SweepLoop
+pub mod RoomOn
+pub mod BusRows
+pub mod BusFits
+pub mod SlotTurns
+pub mod AgainRow

@@ -7,3 +7,6 @@ pub mod Local
 pub mod Opening
 pub mod Held
 pub mod CommitFits
+pub mod LineNeeds
+pub mod BusFits
+pub mod SlotFits

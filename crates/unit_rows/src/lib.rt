@@ -7,9 +7,13 @@ pub use choice::Choice;
 pub use parts::{Local, Parts};
 pub use site::Site;
 
+mod ask;
+mod bus;
 mod choice;
 mod commit;
 mod held;
+mod needs;
+mod sweep;
 mod line_words;
 mod parts;
 mod site;
