@@ -22,3 +22,5 @@ pub mod BusRows
 pub mod BusFits
 pub mod SlotTurns
 pub mod AgainRow
+pub mod InstallRow
+pub mod InstallFits
