@@ -36,3 +36,11 @@ pub mod AckSteps
 pub mod SlotTurns
 pub mod ReplyRows
 pub mod AckRows
+pub mod LineNeeds
+pub mod SweepLoop
+pub mod RoomOn
+pub mod BusRows
+pub mod BusFits
+pub mod AgainRow
+pub mod InstallRow
+pub mod InstallFits

@@ -40,9 +40,15 @@ set_sizes w xs k x y inside here same = record {
   ];
 }
 
-swept_size : (w : Config) (l : ℕ) (b : Bool) (x : Local) → (swept w l b x).buffer.capacity ≡ x.buffer.capacity
+pub swept_size : (w : Config) (l : ℕ) (b : Bool) (x : Local) → (swept w l b x).buffer.capacity ≡ x.buffer.capacity
 swept_size w l true x = refl
 swept_size w l false x = refl
+
+pub more_sizes : (w : Config) (xs ys zs : List Local) → SameSizes w xs ys → SameSizes w ys zs → SameSizes w xs zs
+more_sizes w xs ys zs f g = record {
+  count = g.count ∙ f.count;
+  buffers = λ k d low. g.buffers k d (subst (λ n. k < n) (sym f.count) low) ∙ f.buffers k d low;
+}
 
 pub swept_sizes : (w : Config) (l before after : ℕ) (old new : List Local) → AreSwept w l before after old new → SameSizes w old new
 swept_sizes w l before after old new are = record {

@@ -11,3 +11,6 @@ pub mod Steps
 pub mod Held
 pub mod CommitFits
 pub mod Replies
+pub mod LineNeeds
+pub mod BusFits
+pub mod SlotFits

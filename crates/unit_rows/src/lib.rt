@@ -8,6 +8,8 @@ pub use opening::opening_parts;
 pub use parts::{Local, Parts};
 pub use site::Site;
 
+mod ask;
+mod bus;
 mod choice;
 mod opening;
 mod lock_words;
@@ -16,6 +18,8 @@ mod loads;
 mod lock_instructions;
 mod commit;
 mod held;
+mod needs;
+mod sweep;
 mod line_words;
 mod parts;
 mod replies;
