@@ -1,15 +1,8 @@
 -- An entry of acknowledgements that changes, seen from the lines: the entry of its line, and that of each other line.
-<<<<<<< HEAD
-use Rattle.std.proofs.Common.{◌≡◌, ◌≢◌, ℕ, ◌<◌, ◌==◌, ◌||◌, false, cond, Option, None, Some, [], is_some, option_and_then, refl, sym, ap, ◌∙◌}
-use Rattle.ack_counter.specs.View.{Counted, TableView, entry_at, owes, owes_if}
-use Rattle.ack_counter.specs.Steps.{fresh, also_owed, begun, owing}
-use Rattle.ack_counter.proofs.LawsOffered.{entry_at-with_entry, entry_at-changed, owes-fresh, owes-also_owed}
-=======
 use Rattle.std.proofs.Common.{◌≡◌, ◌≢◌, ℕ, ◌<◌, ◌==◌, ◌||◌, true, false, cond, Option, None, Some, [], is_some, option_and_then, refl, sym, ap, ◌∙◌, subst, inl, inr}
 use Rattle.ack_counter.specs.View.{Counted, TableView, entry_at, owes, owes_if}
 use Rattle.ack_counter.specs.Steps.{fresh, also_owed, begun, owing}
 use Rattle.ack_counter.proofs.LawsOffered.{entry_at-with_entry, entry_at-changed, capacity-changed, owes-fresh, owes-also_owed}
->>>>>>> ccfe80364d79401544717b4fb01e5639994cd064
 use Rattle.dash_model.specs.Maps.{with_member}
 use Rattle.dash_model.specs.Config.{Config}
 use Rattle.dash_model.specs.Cell.{NoAcks, Counting, Expects}

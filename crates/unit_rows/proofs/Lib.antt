@@ -34,6 +34,7 @@ pub mod SlotMet
 pub mod SlotRows
 pub mod AckSteps
 pub mod SlotTurns
+pub mod ReplyTurns
 pub mod ReplyRows
 pub mod AckRows
 pub mod LineNeeds

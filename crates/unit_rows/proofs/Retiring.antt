@@ -1,9 +1,5 @@
 -- A hart that retires an instruction: which hart it is, what it does, and what its part shows then.
-<<<<<<< HEAD
-use Rattle.std.proofs.Common.{◌≡◌, ℕ, ◌<◌, length, slice_index_or, slice_set, refl, sym, ap, ◌∙◌, subst, inl, inr}
-=======
 use Rattle.std.proofs.Common.{◌≡◌, ℕ, ◌+◌, ◌<◌, length, slice_index_or, slice_set, refl, sym, ap, ◌∙◌, subst, inl, inr}
->>>>>>> 779d1baf6cb20b8ff91a2b226c68ec6ddcab9857
 use Rattle.std.proofs.Math.ListN.{length-set}
 use Rattle.std.proofs.lemmas.Nat.{div-mul-add}
 use Rattle.std.proofs.lemmas.List.{get_or_read, get_or-set_same, get_or-set_other}
@@ -16,11 +12,7 @@ use Rattle.hart_core.specs.Meaning.{Needs, Does, IsNext, NeedsIf}
 use Rattle.dash_model.specs.Config.{Config, cluster_of}
 use Rattle.dash_model.specs.Part.{Processor, Part}
 use Rattle.dash_model.specs.HartRows.{HartEffect, retire}
-<<<<<<< HEAD
-use Rattle.dash_model.specs.HartGuards.{Retires, RetiresAt}
-=======
 use Rattle.dash_model.specs.HartGuards.{Retires, RetiresAt, number_of}
->>>>>>> 779d1baf6cb20b8ff91a2b226c68ec6ddcab9857
 use Rattle.unit_rows.specs.declared.parts.Local.{Local}
 use Rattle.unit_rows.specs.Shown.{PartsView, hart_at, ShowsHart, Shows, AreSized}
 use Rattle.unit_rows.specs.Steps.{HartNeeds, HartGoes, changed_local, Retired}

@@ -1,11 +1,7 @@
 //! Where a unit stands.
 ghost use Rattle.std.specs.Prelude.{◌<◌};
 
-<<<<<<< HEAD
 use dash_base::{ClusterId, HartId, Topology, WordAddr};
-=======
-use dash_base::{ClusterId, HartId, Topology};
->>>>>>> ccfe80364d79401544717b4fb01e5639994cd064
 use elf_load::Image;
 
 /// What a unit runs, and which cluster of the machine it is. No event changes it.
@@ -18,7 +14,6 @@ pub struct Site {
 }
 
 impl Site {
-<<<<<<< HEAD
     ghost use Rattle.std.specs.Prelude.{◌≡◌, ◌<◌, ◌+◌, ◌-◌, ◌*◌, ◌/◌, ◌%◌};
 
     /// The number in the machine of the hart with this number in the cluster.
@@ -36,15 +31,4 @@ impl Site {
     {
         word.0.saturating_sub(self.topology.base) % 16 / 4
     }
-=======
-    ghost use Rattle.std.specs.Prelude.{◌≡◌, ◌+◌, ◌*◌};
-
-    /// The number in the machine of a hart of the cluster, by its number there.
-    pub fn hart_id(&self, hart: u32) -> HartId
-        requires { hart < self.now.topology.harts }
-        ensures { result ≡ record { 0 = self.now.cluster.0 * self.now.topology.harts + hart } }
-    {
-        HartId(self.cluster.0 * self.topology.harts + hart)
-    }
->>>>>>> ccfe80364d79401544717b4fb01e5639994cd064
 }
