@@ -1,4 +1,4 @@
-use Rattle.std.proofs.Common.{◌≡◌, ◌∙◌, sym, subst, refl}
+use Rattle.std.proofs.Common.{◌∙◌, sym, subst, refl}
 use Rattle.queue_lock.specs.View.{LocksView, lock_at}
 use Rattle.queue_lock.specs.Steps.{granted}
 use Rattle.unit_rows.specs.Shown.{config, shown, AreSized}
