@@ -25,6 +25,8 @@ pub mod CommitFits
 pub mod SlotMet
 pub mod SlotRows
 pub mod AckSteps
-pub mod SlotTurns
+pub mod MetTurns
 pub mod ReplyRows
 pub mod AckRows
+pub mod SweepLoop
+pub mod ForwardRows

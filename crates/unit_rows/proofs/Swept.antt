@@ -1,6 +1,9 @@
 -- A change of who holds a line, seen at the harts: those who lose it are cleared, and the others are as they were.
 use Rattle.std.proofs.Common.{◌≡◌, ℕ, ◌<◌, ◌%◌, ◌==◌, ◌&&◌, Bool, true, false, cond, not, Option, None, Some, List, length, slice_index_or, refl, sym, ap, ap₂, ◌∙◌, subst, inl, inr, arith}
 use Rattle.std.proofs.lemmas.Bool.Decides.{nat_tests}
+use Rattle.std.proofs.lemmas.List.{with_items_is}
+use Rattle.std.specs.Prelude.{Vec}
+use Rattle.std.specs.Vec.{with_items}
 use Rattle.dash_base.specs.declared.id.WordAddr.{WordAddr}
 use Rattle.snoop_bus.specs.Holding.{Holding, has_hart, holders_in}
 use Rattle.snoop_bus.specs.View.{BusView, holding_at, holders_at, in_hart_l1, harts as bus_harts, changed, nobody, IsOneMap}
@@ -128,3 +131,8 @@ none_leave w b l o same = record {
   lost = λ k low has has_not. absurd (let t : has_hart (holders_in o) k ≡ true = ap (λ n. has_hart n k) same ∙ has in cc);
   stays = λ k low has. refl;
 }
+
+-- a sweep of the harts that a vector lent
+pub swept_back : {Z : Type 0} (w : Config) (l n m : ℕ) (v : Vec Local Z) (lent ws : List Local) → lent ≡ v.items → length lent ≡ v.len → AreSwept w l n m lent ws → AreSwept w l n m v.items (with_items v ws).items
+swept_back w l n m v lent ws lent_is count are =
+    subst (λ y. AreSwept w l n m v.items y) (sym (with_items_is v ws (are.count ∙ count))) (subst (λ y. AreSwept w l n m y ws) lent_is are)

@@ -10,3 +10,4 @@ pub mod LockWords
 pub mod Held
 pub mod CommitFits
 pub mod Replies
+pub mod Giving

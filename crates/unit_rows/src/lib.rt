@@ -9,10 +9,13 @@ pub use site::Site;
 
 mod choice;
 mod lock_words;
+mod burst;
 mod commit;
+mod forwards;
 mod held;
 mod line_words;
 mod parts;
 mod replies;
 mod served;
 mod site;
+mod sweep;

@@ -6,7 +6,7 @@ use Rattle.remote_cache.specs.Steps.{reply_met, after_reply}
 use Rattle.ack_counter.specs.Steps.{granted}
 use Rattle.unit_rows.specs.Shown.{config, shown, AreSized}
 use Rattle.unit_rows.specs.Takes.{Takes}
-use Rattle.unit_rows.proofs.SlotTurns.{with_slots}
+use Rattle.unit_rows.proofs.MetTurns.{with_slots}
 use Rattle.unit_rows.proofs.ReplyRows.{data_ex_past, takes_data_ex, sized_data_ex, grants_acks, leaves_acks}
 use Rattle.unit_rows.proofs.replies.data_ex.Goals as goal
 
