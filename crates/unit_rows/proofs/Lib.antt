@@ -30,3 +30,4 @@ pub mod ReplyRows
 pub mod AckRows
 pub mod SweepLoop
 pub mod ForwardRows
+pub mod Quiet

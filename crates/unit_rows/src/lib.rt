@@ -4,11 +4,14 @@
 #![tactic(auto)]
 
 pub use choice::Choice;
+pub use lock_words::{free, grant, is_free};
 pub use parts::{Local, Parts};
 pub use site::Site;
+pub use messages::take;
 
 mod choice;
 mod lock_words;
+mod messages;
 mod burst;
 mod commit;
 mod forwards;
@@ -19,3 +22,4 @@ mod replies;
 mod served;
 mod site;
 mod sweep;
+
