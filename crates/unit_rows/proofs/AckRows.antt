@@ -19,7 +19,7 @@ use Rattle.unit_rows.specs.Takes.{Takes}
 use Rattle.unit_rows.specs.Replies.{counts_more}
 use Rattle.unit_rows.proofs.LineTakes.{turned, TakesOn, takes_line, takes_no_line}
 use Rattle.unit_rows.proofs.SlotMet.{slots_fit}
-use Rattle.unit_rows.proofs.ReplyTurns.{with_slots, slot_turns, sized_slots}
+use Rattle.unit_rows.proofs.MetTurns.{with_slots, slot_turns, sized_slots}
 use Rattle.unit_rows.proofs.AckSteps.{AcksTurn, acked_turn}
 
 fits_by : (w : Config) (c : ℕ) (e : Counted) (x : Option ℕ) → got_fits (counted_by w c e x) ≡ counts_more (Some e.got)

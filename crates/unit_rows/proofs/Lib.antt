@@ -34,7 +34,6 @@ pub mod SlotMet
 pub mod SlotRows
 pub mod AckSteps
 pub mod SlotTurns
-pub mod ReplyTurns
 pub mod ReplyRows
 pub mod AckRows
 pub mod LineNeeds
@@ -45,3 +44,6 @@ pub mod BusFits
 pub mod AgainRow
 pub mod InstallRow
 pub mod InstallFits
+pub mod MetTurns
+pub mod ForwardRows
+pub mod Quiet

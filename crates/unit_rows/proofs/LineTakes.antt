@@ -118,3 +118,7 @@ takes_nothing w c from m v fits none = takes_still w c from m v fits (λ p shows
 
 pub takes_no_line : (w : Config) (c : ℕ) (from : ClusterId) (m : Msg) (l : LineId) (v : PartsView) → its_line m ≡ Some l → ((p : Part) → Shows w c v p → applies w c m p ≡ false) → Takes w c from m v v []
 takes_no_line w c from m l v e none = takes_nothing w c from m v (λ p shows. (on_its_line w c from.0 l m (idle w) p e).fits) none
+
+-- the same with other words for the new parts, and for what is sent
+pub taken_as : (w : Config) (c : ℕ) (from : ClusterId) (m : Msg) (v z x : PartsView) (ss ts : List Sent) → x ≡ z → ts ≡ ss → Takes w c from m v z ss → Takes w c from m v x ts
+taken_as w c from m v z x ss ts e f took = subst (λ y. Takes w c from m v y ts) (sym e) (subst (λ y. Takes w c from m v z y) (sym f) took)

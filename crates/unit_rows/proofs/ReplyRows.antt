@@ -27,7 +27,7 @@ use Rattle.unit_rows.specs.Replies.{owns_request, prefetch_owns_at, prefetch_own
 use Rattle.unit_rows.proofs.LineTakes.{its_line, turned, TakesOn, takes_line, takes_no_line}
 use Rattle.unit_rows.proofs.SlotMet.{IsMet, is_met, OnLine, Nowhere, Somewhere, on_line}
 use Rattle.unit_rows.proofs.SlotRows.{data_same, data_ex_same, nak_same, arrive_is, arrive_own_is, nak_is, granted_met, granted_not, nak_kept, nak_not, nak_gone}
-use Rattle.unit_rows.proofs.ReplyTurns.{with_slots, slot_turns, sized_slots}
+use Rattle.unit_rows.proofs.MetTurns.{with_slots, slot_turns, sized_slots}
 use Rattle.unit_rows.proofs.AckSteps.{AcksTurn, acks_stay, granted_turn, acked_turn, cancelled_turn}
 
 -- a line that is none of memory

@@ -14,3 +14,4 @@ pub mod Replies
 pub mod LineNeeds
 pub mod BusFits
 pub mod SlotFits
+pub mod Giving

@@ -5,8 +5,10 @@
 
 pub use choice::Choice;
 pub use opening::opening_parts;
+pub use lock_words::{free, grant, is_free};
 pub use parts::{Local, Parts};
 pub use site::Site;
+pub use messages::take;
 
 mod ask;
 mod bus;
@@ -16,7 +18,10 @@ mod lock_words;
 mod instructions;
 mod loads;
 mod lock_instructions;
+mod messages;
+mod burst;
 mod commit;
+mod forwards;
 mod held;
 mod needs;
 mod sweep;
@@ -26,3 +31,4 @@ mod replies;
 mod served;
 mod site;
 mod stores;
+

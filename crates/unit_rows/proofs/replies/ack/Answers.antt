@@ -1,9 +1,9 @@
-use Rattle.std.proofs.Common.{◌∙◌, sym, subst, []}
+use Rattle.std.proofs.Common.{◌≡◌, ◌∙◌, sym, subst, []}
 use Rattle.dash_msg.specs.declared.msg.Msg.TheVariants.{Ack, TransferAck}
 use Rattle.ack_counter.specs.View.{TableView}
 use Rattle.unit_rows.specs.Shown.{config, shown, AreSized}
 use Rattle.unit_rows.specs.Takes.{Takes}
-use Rattle.unit_rows.proofs.ReplyTurns.{with_slots}
+use Rattle.unit_rows.proofs.MetTurns.{with_slots}
 use Rattle.unit_rows.proofs.AckRows.{can_count, ack_past, transfer_ack_past, ack_full, transfer_ack_full, takes_ack, takes_transfer_ack, sized_ack}
 use Rattle.unit_rows.proofs.replies.ack.Goals as goal
 

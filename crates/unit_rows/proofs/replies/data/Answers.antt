@@ -1,9 +1,9 @@
-use Rattle.std.proofs.Common.{◌∙◌, sym, subst, []}
+use Rattle.std.proofs.Common.{◌≡◌, ◌∙◌, sym, subst, []}
 use Rattle.dash_msg.specs.declared.msg.Msg.TheVariants.{Data}
 use Rattle.remote_cache.specs.View.{SlotsView}
 use Rattle.unit_rows.specs.Shown.{config, shown, AreSized}
 use Rattle.unit_rows.specs.Takes.{Takes}
-use Rattle.unit_rows.proofs.ReplyTurns.{with_slots}
+use Rattle.unit_rows.proofs.MetTurns.{with_slots}
 use Rattle.unit_rows.proofs.ReplyRows.{data_past, takes_data, sized_data}
 use Rattle.unit_rows.proofs.replies.data.Goals as goal
 

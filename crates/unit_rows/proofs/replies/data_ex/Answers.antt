@@ -1,4 +1,4 @@
-use Rattle.std.proofs.Common.{◌≡◌, ◌∙◌, sym, ap, subst, [], is_some, not, true, false}
+use Rattle.std.proofs.Common.{◌≡◌, ◌∙◌, sym, ap, ap₂, subst, [], is_some, not, true, false}
 use Rattle.dash_msg.specs.declared.msg.Msg.TheVariants.{DataEx}
 use Rattle.ack_counter.specs.View.{TableView}
 use Rattle.remote_cache.specs.View.{SlotsView}
@@ -6,7 +6,7 @@ use Rattle.remote_cache.specs.Steps.{reply_met, after_reply}
 use Rattle.ack_counter.specs.Steps.{granted}
 use Rattle.unit_rows.specs.Shown.{config, shown, AreSized}
 use Rattle.unit_rows.specs.Takes.{Takes}
-use Rattle.unit_rows.proofs.ReplyTurns.{with_slots}
+use Rattle.unit_rows.proofs.MetTurns.{with_slots}
 use Rattle.unit_rows.proofs.ReplyRows.{data_ex_past, takes_data_ex, sized_data_ex, grants_acks, leaves_acks}
 use Rattle.unit_rows.proofs.replies.data_ex.Goals as goal
 

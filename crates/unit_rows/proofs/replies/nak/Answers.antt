@@ -6,7 +6,7 @@ use Rattle.remote_cache.specs.View.{SlotsView}
 use Rattle.remote_cache.specs.Steps.{reply_met, after_reply}
 use Rattle.unit_rows.specs.Takes.{Takes}
 use Rattle.unit_rows.specs.Replies.{prefetch_owns}
-use Rattle.unit_rows.proofs.ReplyTurns.{with_slots}
+use Rattle.unit_rows.proofs.MetTurns.{with_slots}
 use Rattle.unit_rows.specs.Shown.{config, shown, AreSized}
 use Rattle.unit_rows.proofs.ReplyRows.{nak_past, takes_nak, sized_nak, nak_leaves, nak_misses, nak_cancels}
 use Rattle.unit_rows.proofs.replies.nak.Goals as goal
