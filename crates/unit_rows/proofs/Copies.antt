@@ -12,7 +12,7 @@ use Rattle.dash_model.specs.LineEffect.{has_copy, has_owner, is_owner}
 use Rattle.dash_model.specs.Words.{held_by, in_m}
 use Rattle.unit_rows.specs.Shown.{hart_at, harts_by, owner_by, copy_by}
 use Rattle.unit_rows.proofs.Same.{test_same}
-use Rattle.unit_rows.proofs.Lists.{picked-same, picked-alone, member-picked, with_member-picked}
+use Rattle.unit_rows.proofs.Lists.{picked-same, picked-none, picked-alone, member-picked, with_member-picked}
 
 -- the number in its cluster of a hart
 pub local_of : (w : Config) (c k : ℕ) → hart_at w c k - c * w.top.harts ≡ k
@@ -25,6 +25,10 @@ member-harts_by w c k p low = member-picked (λ h. p (h - c * w.top.harts)) (har
 pub harts_by-same : (w : Config) (c : ℕ) (p q : ℕ → Bool) → ((k : ℕ) → k < w.top.harts → p k ≡ q k) → harts_by w c p ≡ harts_by w c q
 unfolding harts_by
 harts_by-same w c p q e = picked-same (λ h. p (h - c * w.top.harts)) (λ h. q (h - c * w.top.harts)) (c * w.top.harts) w.top.harts (λ h low high. e (h - c * w.top.harts) (omega arith))
+
+pub harts_by-none : (w : Config) (c : ℕ) (p : ℕ → Bool) → ((k : ℕ) → k < w.top.harts → p k ≡ false) → harts_by w c p ≡ []
+unfolding harts_by
+harts_by-none w c p e = picked-none (λ h. p (h - c * w.top.harts)) (c * w.top.harts) w.top.harts (λ h low high. e (h - c * w.top.harts) (omega arith))
 
 pub harts_by-alone : (w : Config) (c k : ℕ) (p : ℕ → Bool) → k < w.top.harts → ((j : ℕ) → j < w.top.harts → p j ≡ (j == k)) → harts_by w c p ≡ hart_at w c k ∷ []
 unfolding harts_by

@@ -2,6 +2,12 @@ pub mod Lists
 pub mod Shown
 pub mod Choices
 pub mod Rows
+pub mod Sweeps
 pub mod Local
 pub mod Opening
 pub mod Steps
+pub mod Held
+pub mod CommitFits
+pub mod LineNeeds
+pub mod BusFits
+pub mod SlotFits

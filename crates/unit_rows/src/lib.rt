@@ -7,10 +7,17 @@ pub use choice::Choice;
 pub use parts::{Local, Parts};
 pub use site::Site;
 
+mod ask;
+mod bus;
 mod choice;
 mod instructions;
 mod loads;
 mod lock_instructions;
+mod commit;
+mod held;
+mod needs;
+mod sweep;
+mod line_words;
 mod parts;
 mod site;
 mod stores;

@@ -1,0 +1,71 @@
+//! Requests for lines.
+ghost use Rattle.std.specs.Prelude.{◌≡◌, ◌<◌, [], ◌∷◌, IfSome, IfNone};
+ghost use Rattle.dash_model.specs.Config.{home_of};
+ghost use Rattle.dash_model.specs.Net.{to};
+ghost use Rattle.remote_cache.specs.Steps.{is_refused_phase};
+ghost use Rattle.remote_cache.specs.View.{count};
+ghost use Rattle.unit_rows.specs.declared.choice.Choice.TheVariants.{Again};
+ghost use Rattle.unit_rows.specs.Rows.{DoesChoice, Cannot};
+ghost use Rattle.unit_rows.specs.Shown.{config, shown, AreSized};
+ghost use Rattle.unit_rows.specs.SlotFits.{AgainFits, request_for};
+
+use crate::parts::Parts;
+use crate::site::Site;
+use dash_base::{LineId, home_among};
+use dash_event::Kind;
+use dash_msg::{Msg, Sent};
+use remote_cache::{Phase, Slot};
+
+/// What a slot has whose request was refused.
+pub fn fits_again(site: &Site, parts: &Parts, slot: u32) -> Option<Slot>
+    requires sized { AreSized (config site.now) site.now.cluster.0 (shown parts.now) }
+    requires slot { slot < count parts.now.slots }
+    ensures fits { IfSome result (λ request. AgainFits (shown parts.now) slot request) }
+    ensures idle { IfNone result (Cannot (config site.now) site.now.cluster.0 (shown parts.now) (Again slot)) }
+{
+    parts.slots.keeps_one_slot_a_line();
+    let request = parts.slots.get(slot)?;
+    if !is_refused(request.phase) {
+        return None;
+    }
+    Some(request)
+}
+
+/// A slot whose request was refused asks the line's home again.
+pub fn again(site: &Site, parts: &mut Parts, slot: u32) -> Option<(Kind, Sent)>
+    requires sized { AreSized (config site.now) site.now.cluster.0 (shown parts.old) }
+    requires slot { slot < count parts.old.slots }
+    ensures did { IfSome result (λ done. DoesChoice (config site.now) site.now.cluster.0 (Again slot) done.0 (shown parts.old) (shown parts.new) (done.1 ∷ [])) }
+    ensures idle { IfNone result (Cannot (config site.now) site.now.cluster.0 (shown parts.old) (Again slot)) }
+    ensures unchanged { IfNone result (shown parts.new ≡ shown parts.old) }
+    ensures sized { AreSized (config site.now) site.now.cluster.0 (shown parts.new) }
+{
+    let request = fits_again(site, parts, slot)?;
+    let line = request.line;
+    parts.slots.keeps_one_slot_a_line();
+    parts.slots.ask_again(slot);
+    let sent = asking(site, line, request.own);
+    Some((Kind::Again { slot, line }, sent))
+}
+
+/// The message that asks a line's home for the line, to own it or to read it.
+fn asking(site: &Site, line: LineId, own: bool) -> Sent
+    ensures { result ≡ to (home_of (config site.now) line.0) (request_for line own) }
+{
+    let msg = if own {
+        Msg::ReadEx { line }
+    } else {
+        Msg::Read { line }
+    };
+    Sent {
+        to: home_among(site.topology.clusters, line.0),
+        msg,
+    }
+}
+
+/// Whether a request was refused.
+fn is_refused(phase: Phase) -> bool
+    ensures { result ≡ is_refused_phase phase }
+{
+    matches!(phase, Phase::Refused)
+}
