@@ -31,3 +31,5 @@ pub mod BusRows
 pub mod BusFits
 pub mod SlotTurns
 pub mod AgainRow
+pub mod HintFits
+pub mod HintRows

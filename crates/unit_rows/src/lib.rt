@@ -10,6 +10,7 @@ pub use site::Site;
 mod ask;
 mod bus;
 mod choice;
+mod hints;
 mod instructions;
 mod loads;
 mod lock_instructions;
