@@ -10,11 +10,6 @@ pub mod HomeRows
 pub mod Homes
 pub mod LockWords
 pub mod AcksRoom
-pub mod Swept
-pub mod BusTurns
-pub mod SlotsOn
-pub mod AcksOn
-pub mod LockAnswers
 pub mod Retiring
 pub mod Drained
 pub mod StepTold
@@ -23,6 +18,11 @@ pub mod LockSends
 pub mod EmptySlots
 pub mod StoreRows
 pub mod LoadRows
+pub mod Swept
+pub mod BusTurns
+pub mod SlotsOn
+pub mod AcksOn
+pub mod LockAnswers
 pub mod LockServes
 pub mod StateM
 pub mod NoInstruction
@@ -47,3 +47,5 @@ pub mod InstallFits
 pub mod MetTurns
 pub mod ForwardRows
 pub mod Quiet
+pub mod HintFits
+pub mod HintRows

@@ -5,6 +5,7 @@ use Rattle.std.proofs.lemmas.Nat.{div-mul-add}
 use Rattle.std.proofs.lemmas.List.{get_or_read, get_or-set_same, get_or-set_other}
 use Rattle.std.specs.Bool.{IsTrue}
 use Rattle.elf_load.specs.Image.{ImageView}
+use Rattle.dash_base.specs.declared.id.HartId.{HartId}
 use Rattle.dash_base.specs.declared.topology.Topology.{Topology}
 use Rattle.dash_base.specs.declared.need.Need.{Need}
 use Rattle.hart_core.specs.HartState.{HartState, can_go_on}
@@ -25,6 +26,10 @@ one_local v k x low is d = sym (get_or_read v.locals k x low is d)
 
 pub same_local : (v : PartsView) (k : ℕ) (x y : Local) → k < length v.locals → x ≡ slice_index_or v.locals k x → y ≡ slice_index_or v.locals k y → x ≡ y
 same_local v k x y low is as_well = sym (one_local v k x low is y) ∙ sym as_well
+
+-- a hart by its number in the machine
+pub hart_number : {g : HartId} {n : ℕ} → g ≡ record { 0 = n } → g.0 ≡ n
+hart_number e = ap (λ (h : HartId). h.0) e
 
 -- a hart is of its cluster
 pub cluster-hart_at : (w : Config) (c k : ℕ) → k < w.top.harts → cluster_of w (hart_at w c k) ≡ c

@@ -15,3 +15,4 @@ pub mod LineNeeds
 pub mod BusFits
 pub mod SlotFits
 pub mod Giving
+pub mod Hints

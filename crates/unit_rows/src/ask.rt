@@ -49,7 +49,7 @@ pub fn again(site: &Site, parts: &mut Parts, slot: u32) -> Option<(Kind, Sent)>
 }
 
 /// The message that asks a line's home for the line, to own it or to read it.
-fn asking(site: &Site, line: LineId, own: bool) -> Sent
+pub fn asking(site: &Site, line: LineId, own: bool) -> Sent
     ensures { result ≡ to (home_of (config site.now) line.0) (request_for line own) }
 {
     let msg = if own {

@@ -20,6 +20,7 @@ mod loads;
 mod lock_instructions;
 mod messages;
 mod burst;
+mod hints;
 mod commit;
 mod forwards;
 mod held;

@@ -9,6 +9,7 @@ ghost use Rattle.unit_rows.specs.Shown.{shown, config, AreSized};
 ghost use Rattle.unit_rows.specs.Steps.{HartNeeds};
 ghost use Rattle.unit_rows.specs.Rows.{DoesChoice, Cannot};
 
+use crate::line_words::word_in;
 use crate::parts::Parts;
 use crate::site::Site;
 use dash_base::{Labels, Mask, Need, WordAddr, merge};
@@ -115,7 +116,7 @@ fn load_held(
     let number = parts.locals[hart as usize].core.retired() + 1;
     let found = parts.bus.read(hart, line)?;
     let (copy, level) = found;
-    let content = copy.words[site.place_of(word) as usize];
+    let content = word_in(site, word, &copy);
     let access = offer(site.hart_id(hart), number, &need, content, false)?;
     let answer = merge(0, mask, content);
     let local = &mut parts.locals[hart as usize];

@@ -5,7 +5,7 @@ use Rattle.unit_rows.proofs.bus.bus_read.Goals as goal
 pub returns-clause-did : goal.returns-clause-did
 returns-clause-did c =
     reads_from_bus (config c.args.site.now) c.args.site.now.cluster.0 c.args.hart (shown c.args.parts.now) c.hart_id.result c.args.line c.bus_read.new.self
-    c.requires.hart c.requires.sized c.keeps_one_map.ensures (c.fits_bus_read.ensures.fits c.if-not-fits_bus_read.false) (λ i. record { 0 = c.hart_id.ensures i }) c.bus_read.ensures
+    c.requires.hart c.requires.sized c.keeps_one_map.ensures (c.fits_bus_read.ensures.fits c.if-not-fits_bus_read.false) c.hart_id.ensures c.bus_read.ensures
 
 pub returns-clause-sized : goal.returns-clause-sized
 returns-clause-sized c =

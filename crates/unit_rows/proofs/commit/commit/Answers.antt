@@ -7,7 +7,7 @@ pub returns-clause-did : goal.returns-clause-did
 returns-clause-did c =
     let x = c.index_mut-local.result.now in
     commits (config c.args.site.now) c.args.site.now.cluster.0 c.args.hart (shown c.args.parts.now) c.in_ok-oldest.oldest c.in_ok-oldest.copy c.written-next.result c.hart_id.result c.line_of-line.result x _ c.commit.new.self c.owe.new.self
-    c.in_ok-oldest.ensures.fits c.requires.hart c.requires.sized c.keeps_one_map.ensures (λ i. record { 0 = c.hart_id.ensures i }) c.line_of-line.ensures c.written-next.ensures c.index_mut-local.ensures.value
+    c.in_ok-oldest.ensures.fits c.requires.hart c.requires.sized c.keeps_one_map.ensures c.hart_id.ensures c.line_of-line.ensures c.written-next.ensures c.index_mut-local.ensures.value
     (ap (λ b. slice_set c.args.parts.now.locals.items c.args.hart (record x { buffer = b })) c.drop_head.ensures) c.commit.ensures c.owe.ensures
 
 pub returns-clause-sized : goal.returns-clause-sized

@@ -1,5 +1,6 @@
 use Rattle.std.proofs.Common.{sym, ◌∙◌}
 use Rattle.unit_rows.specs.Shown.{config, shown}
+use Rattle.unit_rows.proofs.Retiring.{hart_number}
 use Rattle.unit_rows.proofs.PlainSteps.{does_fence, fence_cannot}
 use Rattle.unit_rows.proofs.instructions.fence.Goals as goal
 
@@ -13,4 +14,4 @@ returns-then-not-passes-clause-idle c =
 pub returns-clause-did : goal.returns-clause-did
 returns-clause-did c =
     does_fence (config c.args.site.now) c.args.site.now.cluster.0 c.args.hart c.retire-pc.result c.args.waits c.hart_id.result (shown c.args.parts.now) (shown c.retire-pc.new.parts) c.index-local.result.now
-    c.retire-pc.ensures.retired c.hart_id.ensures c.requires.hart c.requires.sized c.requires.need c.index-local.ensures (sym c.passes.ensures ∙ c.if-not-passes.false)
+    c.retire-pc.ensures.retired (hart_number c.hart_id.ensures) c.requires.hart c.requires.sized c.requires.need c.index-local.ensures (sym c.passes.ensures ∙ c.if-not-passes.false)

@@ -1,4 +1,5 @@
 use Rattle.unit_rows.specs.Shown.{config, shown}
+use Rattle.unit_rows.proofs.Retiring.{hart_number}
 use Rattle.unit_rows.proofs.PlainSteps.{does_stop}
 use Rattle.unit_rows.proofs.instructions.stop.Goals as goal
 
@@ -7,4 +8,4 @@ retire-pc-requires-clause-goes c = λ d. (c.requires.need d).goes
 
 pub returns-clause-did : goal.returns-clause-did
 returns-clause-did c =
-    does_stop (config c.args.site.now) c.args.site.now.cluster.0 c.args.hart c.retire-pc.result c.args.end c.hart_id.result (shown c.args.parts.now) (shown c.retire-pc.new.parts) c.retire-pc.ensures.retired c.hart_id.ensures c.requires.hart c.requires.sized c.requires.need
+    does_stop (config c.args.site.now) c.args.site.now.cluster.0 c.args.hart c.retire-pc.result c.args.end c.hart_id.result (shown c.args.parts.now) (shown c.retire-pc.new.parts) c.retire-pc.ensures.retired (hart_number c.hart_id.ensures) c.requires.hart c.requires.sized c.requires.need

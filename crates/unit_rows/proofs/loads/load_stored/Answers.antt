@@ -2,7 +2,7 @@ use Rattle.std.proofs.Common.{◌≡◌, ◌+◌, ◌<◌, sym, ap, ◌∙◌, s
 use Rattle.write_buffer.specs.Look.{newest_of, look_by}
 use Rattle.unit_rows.specs.declared.parts.Local.{Local}
 use Rattle.unit_rows.specs.Shown.{config, shown}
-use Rattle.unit_rows.proofs.Retiring.{same_local, goes_on, sized_local, capacity_of}
+use Rattle.unit_rows.proofs.Retiring.{hart_number, same_local, goes_on, sized_local, capacity_of}
 use Rattle.unit_rows.proofs.LoadRows.{stored_as}
 use Rattle.unit_rows.proofs.loads.load_stored.Goals as goal
 
@@ -13,7 +13,7 @@ pub returns-clause-did : goal.returns-clause-did
 returns-clause-did c =
     let same : c.index.result.now ≡ c.index_mut-local.result.now = same_local (shown c.args.parts.now) c.args.hart c.index.result.now c.index_mut-local.result.now (subst (λ n. c.args.hart < n) (sym c.requires.sized.locals) c.requires.hart) c.index.ensures c.index_mut-local.ensures.value in
     stored_as (config c.args.site.now) c.args.site.now.cluster.0 c.args.hart (c.retired-retired.result + 1) c.args.mask c.args.value c.args.number c.merge-answer.result c.hart_id.result c.args.word c.args.labels c.in_ok-access.access (shown c.args.parts.now) c.index_mut-local.result.now c.finish.new.self
-    c.hart_id.ensures c.requires.hart c.requires.sized c.requires.need c.index_mut-local.ensures.value (ap (λ n. n + 1) c.retired-retired.ensures ∙ ap (λ (y : Local). y.core.retired + 1) same)
+    (hart_number c.hart_id.ensures) c.requires.hart c.requires.sized c.requires.need c.index_mut-local.ensures.value (ap (λ n. n + 1) c.retired-retired.ensures ∙ ap (λ (y : Local). y.core.retired + 1) same)
     (ap (λ (y : Local). look_by (newest_of c.args.word.0 y.buffer.items) c.args.mask) c.index_mut-local.ensures.value ∙ c.requires.look c.index_mut-local.result.now) (sym c.in_ok-access.was ∙ c.offer.ensures) c.merge-answer.ensures c.finish.ensures.next
 
 pub returns-clause-sized : goal.returns-clause-sized

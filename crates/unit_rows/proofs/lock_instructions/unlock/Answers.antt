@@ -1,6 +1,6 @@
 use Rattle.std.proofs.Common.{◌+◌, sym, ap, ◌∙◌}
 use Rattle.unit_rows.specs.Shown.{config, shown}
-use Rattle.unit_rows.proofs.Retiring.{sized_local, capacity_of}
+use Rattle.unit_rows.proofs.Retiring.{hart_number, sized_local, capacity_of}
 use Rattle.unit_rows.proofs.LockSends.{does_unlock, unlock_cannot, undrained_cannot}
 use Rattle.unit_rows.proofs.lock_instructions.unlock.Goals as goal
 
@@ -15,7 +15,7 @@ returns-then-not-may_fence-clause-idle c =
 pub returns-clause-did : goal.returns-clause-did
 returns-clause-did c =
     does_unlock (config c.args.site.now) c.args.site.now.cluster.0 c.args.hart (c.retired.result + 1) c.hart_id-id.result c.args.word c.home_of_lock-to.result (shown c.args.parts.now) c.index-local.result.now c.index_mut.result.now
-    c.hart_id-id.ensures c.requires.hart c.requires.sized c.requires.need c.index-local.ensures c.index_mut.ensures.value c.if-local.false (sym c.may_fence.ensures ∙ c.if-not-may_fence.false) (ap (λ n. n + 1) c.retired.ensures) c.home_of_lock-to.ensures
+    (hart_number c.hart_id-id.ensures) c.requires.hart c.requires.sized c.requires.need c.index-local.ensures c.index_mut.ensures.value c.if-local.false (sym c.may_fence.ensures ∙ c.if-not-may_fence.false) (ap (λ n. n + 1) c.retired.ensures) c.home_of_lock-to.ensures
 
 pub returns-clause-sized : goal.returns-clause-sized
 returns-clause-sized c =

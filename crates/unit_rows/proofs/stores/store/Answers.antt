@@ -1,7 +1,7 @@
 use Rattle.std.proofs.Common.{◌≡◌, ◌+◌, ◌<◌, length, sym, ap, ◌∙◌, subst, arith}
 use Rattle.unit_rows.specs.declared.parts.Local.{Local}
 use Rattle.unit_rows.specs.Shown.{config, shown}
-use Rattle.unit_rows.proofs.Retiring.{same_local, goes_on, sized_local, capacity_of}
+use Rattle.unit_rows.proofs.Retiring.{hart_number, same_local, goes_on, sized_local, capacity_of}
 use Rattle.unit_rows.proofs.StoreRows.{put_done, does_store, store_cannot}
 use Rattle.unit_rows.proofs.stores.store.Goals as goal
 
@@ -19,7 +19,7 @@ returns-clause-did c =
     let cap = capacity_of (config c.args.site.now) c.args.site.now.cluster.0 (shown c.args.parts.now) c.args.hart c.index_mut-local.result.now c.requires.hart c.requires.sized c.index_mut-local.ensures.value in
     let put = put_done c.try_put.result _ _ c.try_put.ensures.fits c.try_put.ensures.put (subst (λ n. length c.index_mut-local.result.now.buffer.items < n) (sym cap) room) in
     does_store (config c.args.site.now) c.args.site.now.cluster.0 c.args.hart (c.retired-number.result + 1) c.args.mask c.args.value c.hart_id.result c.args.word c.in_ok-access.access (shown c.args.parts.now) c.index_mut-local.result.now c.finish.new.self c.try_put.new.self
-    c.hart_id.ensures c.requires.hart c.requires.sized c.requires.need c.index_mut-local.ensures.value (ap (λ n. n + 1) c.retired-number.ensures ∙ ap (λ (y : Local). y.core.retired + 1) same) room
+    (hart_number c.hart_id.ensures) c.requires.hart c.requires.sized c.requires.need c.index_mut-local.ensures.value (ap (λ n. n + 1) c.retired-number.ensures ∙ ap (λ (y : Local). y.core.retired + 1) same) room
     (sym c.in_ok-access.was ∙ c.offer.ensures) c.finish.ensures.next (ap (λ b. b.items) put)
 
 pub returns-clause-sized : goal.returns-clause-sized
