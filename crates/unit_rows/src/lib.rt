@@ -12,6 +12,7 @@ mod bus;
 mod choice;
 mod commit;
 mod held;
+mod install;
 mod needs;
 mod sweep;
 mod line_words;
