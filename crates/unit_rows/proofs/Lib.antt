@@ -24,3 +24,4 @@ pub mod SlotTurns
 pub mod AgainRow
 pub mod InstallRow
 pub mod InstallFits
+pub mod Leaving
