@@ -25,3 +25,4 @@ pub mod AgainRow
 pub mod InstallRow
 pub mod InstallFits
 pub mod Leaving
+pub mod EvictRow

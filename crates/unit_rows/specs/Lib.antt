@@ -10,3 +10,4 @@ pub mod CommitFits
 pub mod LineNeeds
 pub mod BusFits
 pub mod SlotFits
+pub mod EvictFits
