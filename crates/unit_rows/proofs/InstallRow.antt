@@ -1,18 +1,16 @@
 -- Install: where the line came to a slot of the code whose hart has room for it, the parts do the event's row.
-use Rattle.std.proofs.Common.{◌≡◌, ◌≢◌, ℕ, ◌<◌, ◌==◌, ◌&&◌, Bool, true, false, not, cond, Option, None, Some, List, [], ◌∷◌, length, slice_index_or, slice_set, refl, sym, ap, ap₂, ◌∙◌, subst, arith}
+use Rattle.std.proofs.Common.{◌≡◌, ℕ, ◌<◌, ◌&&◌, Bool, true, false, not, cond, None, Some, List, [], ◌∷◌, length, slice_index_or, slice_set, refl, sym, ap, ap₂, ◌∙◌, subst}
 use Rattle.std.proofs.lemmas.List.{length-set}
 use Rattle.dash_base.specs.declared.id.HartId.{HartId}
 use Rattle.dash_base.specs.declared.line.Line.{Line}
-use Rattle.dash_base.specs.Places.{line_count}
 use Rattle.dash_event.specs.declared.event.Kind.TheVariants as kind
-use Rattle.remote_cache.specs.declared.slot.Phase.TheVariants as waits
 use Rattle.remote_cache.specs.declared.slot.Slot.{Slot as Request}
-use Rattle.remote_cache.specs.View.{SlotsView, slot_at, count as slot_count, with_slot, is_of, IsOnePerLine}
+use Rattle.remote_cache.specs.View.{SlotsView, count as slot_count, with_slot, IsOnePerLine}
 use Rattle.snoop_bus.specs.Holding.{Holding, has_hart, holders_in}
 use Rattle.snoop_bus.specs.Holding as bus
-use Rattle.snoop_bus.specs.View.{BusView, holding_at, holders_at, all_but, changed, after_install, is_holder, IsOneMap}
+use Rattle.snoop_bus.specs.View.{BusView, holders_at, all_but, after_install, is_holder, IsOneMap}
 use Rattle.dash_model.specs.Config.{Config, hart_id, line_id, home_of}
-use Rattle.dash_model.specs.Cell.{Phase, Came, Slot, NoSlot, Reads, Owns, Held, Cell, Home}
+use Rattle.dash_model.specs.Cell.{Came, Slot, NoSlot, Reads, Owns, Held, Cell, Home}
 use Rattle.dash_model.specs.Part.{Processor, Part}
 use Rattle.dash_model.specs.LineEffect.{LineEffect}
 use Rattle.dash_model.specs.HartRows.{PartEffect, unreserved, change, kept, on_line, acts, install}
@@ -27,7 +25,6 @@ use Rattle.unit_rows.specs.Shown.{PartsView, hart_at, copy_by, phase_by, slot_by
 use Rattle.unit_rows.specs.Rows.{Happens, DoesChoice}
 use Rattle.unit_rows.specs.Sweeps.{swept, AreSwept}
 use Rattle.unit_rows.specs.SlotFits.{InstallFits}
-use Rattle.unit_rows.proofs.Same.{test_same, test_differ}
 use Rattle.unit_rows.proofs.Harts.{with_local, shows_change}
 use Rattle.unit_rows.proofs.Lines.{shows_line}
 use Rattle.unit_rows.proofs.Swept.{reserved_word, harts_swept}

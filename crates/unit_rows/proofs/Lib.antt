@@ -49,3 +49,5 @@ pub mod ForwardRows
 pub mod Quiet
 pub mod HintFits
 pub mod HintRows
+pub mod Leaving
+pub mod EvictRow

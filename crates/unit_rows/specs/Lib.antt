@@ -16,3 +16,4 @@ pub mod BusFits
 pub mod SlotFits
 pub mod Giving
 pub mod Hints
+pub mod EvictFits

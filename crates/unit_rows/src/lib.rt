@@ -24,6 +24,7 @@ mod hints;
 mod commit;
 mod forwards;
 mod held;
+mod install;
 mod needs;
 mod sweep;
 mod line_words;

@@ -1,7 +1,7 @@
 //! Reservations of harts that lose a line.
 ghost use Rattle.std.specs.Prelude.{◌≡◌, ◌≤◌, length};
 ghost use Rattle.unit_rows.specs.Shown.{config};
-ghost use Rattle.unit_rows.specs.Sweeps.{unreserved_word, AreSwept};
+ghost use Rattle.unit_rows.specs.Sweeps.{unreserved_word, swept, AreSwept};
 
 use crate::held::has_hart;
 use crate::parts::Local;
@@ -18,6 +18,15 @@ pub fn sweep(site: &Site, locals: &mut [Local], before: u32, after: u32, line: L
         if has_hart(before, hart as u32) && !has_hart(after, hart as u32) {
             local.reserved = unreserved(site, line, local.reserved);
         }
+    }
+}
+
+/// Clears a hart's reservation in a line, where it is to be cleared.
+pub fn clear(site: &Site, local: &mut Local, line: LineId, clears: bool)
+    ensures { local.new ≡ swept (config site.now) line.0 clears local.old }
+{
+    if clears {
+        local.reserved = unreserved(site, line, local.reserved);
     }
 }
 
