@@ -1,5 +1,5 @@
 -- Hints: the row of one that opens no slot, of one that asks for a line to read, and of one that asks to own it.
-use Rattle.std.proofs.Common.{◌≡◌, ◌≢◌, ℕ, ◌+◌, ◌-◌, ◌/◌, ◌*◌, ◌%◌, ◌<◌, ◌≤◌, ◌&&◌, nat_le, not, Bool, true, false, Option, None, Some, List, [], ◌∷◌, slice_index_or, refl, sym, ap, ◌∙◌, subst, inl, inr, arith}
+use Rattle.std.proofs.Common.{◌≡◌, ◌≢◌, ℕ, ◌+◌, ◌-◌, ◌/◌, ◌*◌, ◌%◌, ◌<◌, ◌≤◌, ◌&&◌, nat_le, not, Bool, true, false, Option, None, Some, [], ◌∷◌, refl, sym, ap, ◌∙◌, subst, inl, inr, arith}
 use Rattle.std.specs.Prelude.{MatchOption}
 use Rattle.std.proofs.lemmas.Bool.Decides.{nat_tests}
 use Rattle.dash_base.specs.Places.{line_count}
@@ -7,7 +7,6 @@ use Rattle.dash_base.specs.declared.id.HartId.{HartId}
 use Rattle.dash_base.specs.declared.id.LineId.{LineId}
 use Rattle.dash_base.specs.declared.need.HintKind.{HintKind}
 use Rattle.dash_base.specs.declared.need.HintKind.TheVariants.{Fetch, Shared, Exclusive}
-use Rattle.dash_base.specs.declared.need.Need.{Need}
 use Rattle.dash_base.specs.declared.need.Need.TheVariants as needed
 use Rattle.dash_event.specs.declared.event.Kind.TheVariants as kind
 use Rattle.ack_counter.specs.View.{Counted, TableView, entry_at, has_room, count as acks_count}
@@ -15,13 +14,13 @@ use Rattle.ack_counter.specs.Steps.{begun, fresh}
 use Rattle.ack_counter.proofs.LawsOffered.{capacity-with_entry}
 use Rattle.remote_cache.specs.declared.slot.Slot.{Slot as Request}
 use Rattle.remote_cache.specs.Steps.{issued}
-use Rattle.remote_cache.specs.View.{SlotsView, count, slot_at, slot_of, is_of, with_slot, IsOnePerLine}
+use Rattle.remote_cache.specs.View.{is_of, with_slot, IsOnePerLine}
 use Rattle.prefetch_unit.specs.Hints.{Opens}
 use Rattle.hart_core.specs.Access.{in_memory}
 use Rattle.snoop_bus.specs.View.{copy_of, owner_at}
 use Rattle.std.specs.Prelude.{is_some}
 use Rattle.dash_model.specs.Config.{Config, line_id, line_at, home_of}
-use Rattle.dash_model.specs.Cell.{Asked, Reads, Owns, Counting}
+use Rattle.dash_model.specs.Cell.{Asked, Reads, Owns}
 use Rattle.dash_model.specs.Net.{to}
 use Rattle.dash_model.specs.Part.{Part}
 use Rattle.dash_model.specs.LineEffect.{LineEffect}
@@ -30,8 +29,7 @@ use Rattle.dash_model.specs.HartRows.{PartEffect, acts, retire, hint_row, on_lin
 use Rattle.dash_model.specs.Guard.{Guard}
 use Rattle.dash_model.specs.Row.{row}
 use Rattle.unit_rows.specs.declared.choice.Choice.TheVariants.{Step}
-use Rattle.unit_rows.specs.declared.parts.Local.{Local}
-use Rattle.unit_rows.specs.Shown.{PartsView, hart_at, slot_by, slot_on, acks_by, Shows, AreSized}
+use Rattle.unit_rows.specs.Shown.{PartsView, hart_at, Shows, AreSized}
 use Rattle.unit_rows.specs.Steps.{HartNeeds, changed_local, Retired}
 use Rattle.unit_rows.specs.SlotFits.{request_for}
 use Rattle.unit_rows.specs.Hints.{HintFits, OpensJust}

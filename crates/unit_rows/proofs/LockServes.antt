@@ -1,5 +1,5 @@
 -- A lock word that is granted, or freed: what the event needs, and what it makes of the word.
-use Rattle.std.proofs.Common.{◌≡◌, ◌≢◌, ℕ, zero, suc, ◌+◌, ◌-◌, ◌*◌, ◌/◌, ◌%◌, ◌<◌, ◌≤◌, ◌==◌, ◌&&◌, Bool, true, false, cond, not, nat_lt, nat_le, Option, Some, None, List, [], ◌∷◌, length, drop, map, slice_get, refl, sym, ap, ap₂, ◌∙◌, subst, arith}
+use Rattle.std.proofs.Common.{◌≡◌, ℕ, suc, ◌+◌, ◌-◌, ◌*◌, ◌/◌, ◌%◌, ◌<◌, ◌==◌, ◌&&◌, Bool, true, false, not, nat_lt, nat_le, Some, List, [], ◌∷◌, length, drop, map, slice_get, refl, sym, ap, ap₂, ◌∙◌, subst, arith}
 use Rattle.std.specs.Prelude.{unwrap_or}
 use Rattle.std.proofs.lemmas.Bool.Decides.{nat_tests}
 use Rattle.dash_base.specs.declared.id.ClusterId.{ClusterId}
@@ -10,7 +10,6 @@ use Rattle.dash_base.specs.declared.need.Need.{Need}
 use Rattle.dash_base.specs.declared.need.Need.TheVariants as needed
 use Rattle.dash_msg.specs.declared.classes.Class.TheVariants.{Request}
 use Rattle.dash_msg.specs.declared.msg.Msg.TheVariants.{LockGrant, UnlockAck, Unlock}
-use Rattle.dash_msg.specs.declared.parcel.Sent.{Sent}
 use Rattle.dash_event.specs.Offered.{offered}
 use Rattle.dash_event.specs.Records.{unseen}
 use Rattle.dash_event.specs.declared.access.Access.{Access}
@@ -18,7 +17,7 @@ use Rattle.dash_event.specs.declared.access.Seen.TheVariants as seen
 use Rattle.dash_event.specs.declared.event.Kind.{Kind}
 use Rattle.dash_event.specs.declared.event.Kind.TheVariants as kind
 use Rattle.queue_lock.specs.declared.waiter.Waiter.{Waiter as Asker}
-use Rattle.queue_lock.specs.View.{LocksView, is_own, is_ready, is_empty, lock_at, with_lock, Lock as LockView}
+use Rattle.queue_lock.specs.View.{LocksView, is_own, is_ready, is_empty, lock_at, Lock as LockView}
 use Rattle.queue_lock.specs.Steps.{granted, freed, after_grant, after_free}
 use Rattle.dash_model.specs.Maps.{upd, raised, most}
 use Rattle.dash_model.specs.Config.{Config, hart_id, cluster_of, is_lock, lock_home}
@@ -35,7 +34,7 @@ use Rattle.unit_rows.specs.declared.choice.Choice.TheVariants.{Grant, Take}
 use Rattle.unit_rows.specs.Choices.{IsOf}
 use Rattle.unit_rows.specs.Shown.{PartsView, waiter_by, lock_by, Shows, AreSized}
 use Rattle.unit_rows.specs.LockWords.{address, IsAskOf, IsUnlockOf, Freed}
-use Rattle.unit_rows.specs.Rows.{Happens, DoesChoice, Enabled, Cannot}
+use Rattle.unit_rows.specs.Rows.{Happens, DoesChoice, Cannot}
 use Rattle.unit_rows.proofs.LineTakes.{idle}
 use Rattle.unit_rows.proofs.LockWords.{with_locks, shows_lock, own_of, own_is}
 

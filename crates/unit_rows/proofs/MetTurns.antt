@@ -1,5 +1,5 @@
 -- A row that changes a line's slot and its entry of acknowledgements, and nothing else.
-use Rattle.std.proofs.Common.{◌≡◌, ◌≢◌, ℕ, ◌<◌, slice_index_or, refl, sym, ap, ◌∙◌, subst}
+use Rattle.std.proofs.Common.{◌≡◌, ◌≢◌, ℕ, slice_index_or, refl, sym, ◌∙◌, subst}
 use Rattle.ack_counter.specs.View.{TableView}
 use Rattle.remote_cache.specs.View.{SlotsView}
 use Rattle.dash_model.specs.Config.{Config}

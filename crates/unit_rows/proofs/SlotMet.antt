@@ -1,5 +1,5 @@
 -- What a message makes of the slot of its line, and of no other.
-use Rattle.std.proofs.Common.{◌≡◌, ◌≢◌, ℕ, ◌<◌, ◌==◌, Bool, true, false, cond, not, nat_lt, Option, None, Some, length, slice_index_or, refl, sym, ap, ◌∙◌, subst, inl, inr, arith}
+use Rattle.std.proofs.Common.{◌≡◌, ◌≢◌, ℕ, ◌<◌, ◌==◌, Bool, true, false, Option, None, Some, refl, sym, ap, ◌∙◌, subst, inl, inr, arith}
 use Rattle.std.proofs.Math.ListN.{length-set}
 use Rattle.std.proofs.lemmas.Bool.Decides.{nat_tests}
 use Rattle.dash_base.specs.Places.{line_count}
@@ -12,8 +12,8 @@ use Rattle.remote_cache.specs.Steps.{changed_in, change_in, after_row}
 use Rattle.remote_cache.proofs.LawsOffered.{lines_have_one_slot, set_slots_stand}
 use Rattle.dash_model.specs.Config.{Config}
 use Rattle.dash_model.specs.Cell.{Slot, NoSlot}
-use Rattle.unit_rows.specs.Shown.{PartsView, AreSized, slot_by, slot_in, slot_on}
-use Rattle.unit_rows.proofs.Same.{same_or_not, test_same}
+use Rattle.unit_rows.specs.Shown.{slot_by, slot_in, slot_on}
+use Rattle.unit_rows.proofs.Same.{same_or_not}
 use Rattle.unit_rows.proofs.SlotsOn.{slot_kept, slot_closed, slot_elsewhere}
 
 -- what a change makes of a slot, on its line

@@ -1,13 +1,9 @@
-use Rattle.std.proofs.Common.{◌≡◌, ◌∙◌, sym, ap, ap₂, subst, refl, [], ◌∷◌, is_some, Some, None, true, false}
-use Rattle.dash_base.specs.declared.id.ClusterId.{ClusterId}
+use Rattle.std.proofs.Common.{◌∙◌, sym, ap₂, subst, refl, []}
 use Rattle.dash_msg.specs.declared.msg.Msg.TheVariants as message
-use Rattle.dash_msg.specs.declared.parcel.Sent.{Sent}
-use Rattle.dash_model.specs.Config.{cluster_id}
 use Rattle.snoop_bus.specs.View.{BusView, holders_at, after_clear}
 use Rattle.remote_cache.specs.View.{SlotsView}
 use Rattle.unit_rows.specs.Shown.{config, shown, AreSized}
 use Rattle.unit_rows.specs.Sweeps.{AreSwept}
-use Rattle.unit_rows.specs.Giving.{given}
 use Rattle.std.specs.Vec.{with_items}
 use Rattle.unit_rows.proofs.Swept.{swept_back}
 use Rattle.unit_rows.proofs.BusTurns.{with_line}

@@ -1,4 +1,4 @@
-use Rattle.std.proofs.Common.{◌≡◌, ◌∙◌, sym, subst, []}
+use Rattle.std.proofs.Common.{◌∙◌, sym, subst, []}
 use Rattle.dash_msg.specs.declared.msg.Msg.TheVariants.{Ack, TransferAck}
 use Rattle.ack_counter.specs.View.{TableView}
 use Rattle.unit_rows.specs.Shown.{config, shown, AreSized}

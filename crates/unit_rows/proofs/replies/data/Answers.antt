@@ -1,4 +1,4 @@
-use Rattle.std.proofs.Common.{◌≡◌, ◌∙◌, sym, subst, []}
+use Rattle.std.proofs.Common.{◌∙◌, sym, subst, []}
 use Rattle.dash_msg.specs.declared.msg.Msg.TheVariants.{Data}
 use Rattle.remote_cache.specs.View.{SlotsView}
 use Rattle.unit_rows.specs.Shown.{config, shown, AreSized}

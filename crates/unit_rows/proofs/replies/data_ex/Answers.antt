@@ -1,4 +1,4 @@
-use Rattle.std.proofs.Common.{◌≡◌, ◌∙◌, sym, ap, ap₂, subst, [], is_some, not, true, false}
+use Rattle.std.proofs.Common.{◌≡◌, ◌∙◌, sym, ap, subst, [], is_some, not, true, false}
 use Rattle.dash_msg.specs.declared.msg.Msg.TheVariants.{DataEx}
 use Rattle.ack_counter.specs.View.{TableView}
 use Rattle.remote_cache.specs.View.{SlotsView}
