@@ -33,3 +33,4 @@ pub mod SlotTurns
 pub mod AgainRow
 pub mod HintFits
 pub mod HintRows
+pub mod Resting
