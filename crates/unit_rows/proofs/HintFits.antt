@@ -1,23 +1,22 @@
 -- A hint opens a slot of the code's exactly where it opens that slot of the part.
-use Rattle.std.proofs.Common.{◌≡◌, ◌≢◌, ℕ, ◌+◌, ◌*◌, ◌<◌, ◌≤◌, ◌&&◌, Bool, true, false, cond, not, Option, None, Some, is_some, refl, sym, ap, ◌∙◌, subst, arith}
+use Rattle.std.proofs.Common.{◌≡◌, ℕ, ◌*◌, ◌<◌, ◌≤◌, ◌&&◌, Bool, true, false, cond, not, Option, None, Some, is_some, refl, sym, ap, ◌∙◌, subst}
 use Rattle.dash_base.specs.declared.need.HintKind.{HintKind}
 use Rattle.dash_base.specs.declared.need.HintKind.TheVariants.{Fetch, Shared, Exclusive}
 use Rattle.ack_counter.specs.View.{has_room}
 use Rattle.remote_cache.specs.declared.slot.Slot.{Slot as Request}
 use Rattle.remote_cache.specs.View.{SlotsView, slot_at, slot_of, is_of, IsOnePerLine}
 use Rattle.remote_cache.proofs.LawsOffered.{lines_have_one_slot}
-use Rattle.snoop_bus.specs.Holding.{Holding, copy_in, owner_in}
+use Rattle.snoop_bus.specs.Holding.{Holding, copy_in}
 use Rattle.snoop_bus.specs.View.{holding_at, copy_of, owner_at}
 use Rattle.prefetch_unit.specs.Hints.{kind_opens, IsLeastEmpty}
 use Rattle.dash_model.specs.Config.{Config, line_at}
 use Rattle.dash_model.specs.Cell.{NoSlot, Owns, Reads}
 use Rattle.dash_model.specs.LineEffect.{has_copy, has_owner}
 use Rattle.dash_model.specs.Part.{Part}
-use Rattle.dash_model.specs.Words.{AcksHaveRoom}
 use Rattle.dash_model.specs.HartGuards.{SlotIs}
 use Rattle.dash_model.specs.Wants as model
 use Rattle.dash_model.specs.Wants.{KindOpens, Opens}
-use Rattle.unit_rows.specs.Shown.{PartsView, hart_at, phase_by, slot_by, slot_in, slot_on, copy_by, Shows, AreSized}
+use Rattle.unit_rows.specs.Shown.{PartsView, hart_at, phase_by, slot_by, slot_in, Shows, AreSized}
 use Rattle.unit_rows.specs.Hints.{HintFits, OpensJust}
 use Rattle.unit_rows.proofs.AcksRoom.{room_there, room_back}
 use Rattle.unit_rows.proofs.Copies.{has-copy_by, has_owner-copy_by}

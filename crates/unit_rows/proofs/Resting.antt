@@ -1,5 +1,5 @@
 -- A hart that rests does no instruction, and one that doesn't has a need.
-use Rattle.std.proofs.Common.{◌≡◌, ◌≢◌, ◌↔◌, ℕ, ◌<◌, Bool, true, false, length, slice_index_or, refl, sym, ap, ◌∙◌, subst}
+use Rattle.std.proofs.Common.{◌≡◌, ◌≢◌, ◌↔◌, ℕ, ◌<◌, Bool, true, false, length, slice_index_or, refl, sym, ap, subst}
 use Rattle.dash_base.specs.declared.need.Need.{Need}
 use Rattle.dash_base.specs.declared.need.Need.TheVariants.{Rest}
 use Rattle.dash_event.specs.declared.event.Kind.{Kind}

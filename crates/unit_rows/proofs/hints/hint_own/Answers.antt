@@ -1,4 +1,4 @@
-use Rattle.std.proofs.Common.{◌≡◌, ◌<◌, true, sym, ap, ◌∙◌, subst}
+use Rattle.std.proofs.Common.{◌<◌, true, sym, ap, ◌∙◌, subst}
 use Rattle.unit_rows.specs.Shown.{config, shown}
 use Rattle.unit_rows.proofs.Retiring.{hart_number}
 use Rattle.dash_base.specs.declared.id.LineId.{LineId}
@@ -6,7 +6,7 @@ use Rattle.remote_cache.specs.View.{slot_of}
 use Rattle.unit_rows.specs.Steps.{Retired}
 use Rattle.unit_rows.proofs.HintRows.{asks_to_own, asking_parts, sized_asking, room_for, begun_range, capacity-begun}
 use Rattle.unit_rows.specs.Shown.{AreSized}
-use Rattle.std.proofs.Common.{List, [], ◌∷◌, Some}
+use Rattle.std.proofs.Common.{[], ◌∷◌, Some}
 use Rattle.dash_msg.specs.declared.parcel.Sent.{Sent}
 use Rattle.unit_rows.specs.Rows.{DoesChoice}
 use Rattle.unit_rows.specs.declared.choice.Choice.TheVariants.{Step}

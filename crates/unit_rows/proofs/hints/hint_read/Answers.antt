@@ -1,12 +1,12 @@
-use Rattle.std.proofs.Common.{◌≡◌, ◌<◌, true, sym, ap, ◌∙◌, subst}
+use Rattle.std.proofs.Common.{◌<◌, sym, ap, ◌∙◌, subst}
 use Rattle.unit_rows.specs.Shown.{config, shown}
 use Rattle.unit_rows.proofs.Retiring.{hart_number}
 use Rattle.dash_base.specs.declared.id.LineId.{LineId}
 use Rattle.remote_cache.specs.View.{slot_of}
 use Rattle.unit_rows.specs.Steps.{Retired}
-use Rattle.unit_rows.proofs.HintRows.{asks_to_read, asking_parts, sized_asking}
+use Rattle.unit_rows.proofs.HintRows.{asks_to_read, sized_asking}
 use Rattle.unit_rows.specs.Shown.{AreSized}
-use Rattle.std.proofs.Common.{List, [], ◌∷◌}
+use Rattle.std.proofs.Common.{[], ◌∷◌}
 use Rattle.dash_msg.specs.declared.parcel.Sent.{Sent}
 use Rattle.unit_rows.specs.Rows.{DoesChoice}
 use Rattle.unit_rows.specs.declared.choice.Choice.TheVariants.{Step}

@@ -1,4 +1,4 @@
-use Rattle.std.proofs.Common.{◌≡◌, ◌+◌, ◌<◌, slice_index_or, sym, ap, ◌∙◌, subst}
+use Rattle.std.proofs.Common.{◌≡◌, ◌+◌, ◌<◌, sym, ap, ◌∙◌, subst}
 use Rattle.std.proofs.Common.{false, None}
 use Rattle.dash_base.specs.declared.id.LineId.{LineId}
 use Rattle.snoop_bus.specs.View.{is_holder, hart_read_of}
