@@ -59,9 +59,12 @@ pub does_nothing : (w : Config) (c k pc address : ℕ) (kinds : HintKind) (g : H
 unfolding Guard row
 does_nothing w c k pc address kinds g v z r e low sized n one just = record {
   is_of = e;
-  does = record { done = effect (needed.Hint kinds address) r.core; happens = λ p s.
-    let q = plain_step w c k g.0 pc (needed.Hint kinds address) v z p r e low sized n s in
-    record { guard = record { kinds = kinds; address = address; next = q.at; opens = slot_is_shown w c address kinds None v p s sized one just }; shows = q.shows; sent_is = refl } };
+  does = record {
+    done = effect (needed.Hint kinds address) r.core;
+    happens = λ p s.
+        let q = plain_step w c k g.0 pc (needed.Hint kinds address) v z p r e low sized n s in
+        record { guard = record { kinds = kinds; address = address; next = q.at; opens = slot_is_shown w c address kinds None v p s sized one just }; shows = q.shows; sent_is = refl };
+  };
 }
 
 -- the parts once a slot asks
@@ -82,24 +85,27 @@ to_read : (w : Config) (c k pc address n : ℕ) (kinds : HintKind) (g : HartId) 
 unfolding Guard row
 to_read w c k pc address n kinds g v z r e low sized needs one shared f = record {
   is_of = e;
-  does = record { done = effect (needed.Hint kinds address) r.core; happens = λ p s.
-    let l = line_at w address in
-    let v1 = changed_local v k (record r.local { core = r.core }) in
-    let q = plain_step w c k g.0 pc (needed.Hint kinds address) v v1 p (before w v z n k pc (line_id l) false v.acks r) e low sized needs s in
-    let p1 = retire g.0 (effect (needed.Hint kinds address) r.core) p in
-    let slots = with_slot v.slots n (Some (issued k (line_id l) false)) in
-    let d : LineEffect = act_row (line_id l) (home_of w l) (AskRead n g.0) (p1.cells l) (p1.homes l) in
-    let shows : Shows w c (with_line v1 v1.locals v1.bus slots v.acks) (on_line w l d p1).part = shows_line w c v1 (with_line v1 v1.locals v1.bus slots v.acks) p1 l d q.shows
+  does = record {
+    done = effect (needed.Hint kinds address) r.core;
+    happens = λ p s.
+        let l = line_at w address in
+        let v1 = changed_local v k (record r.local { core = r.core }) in
+        let q = plain_step w c k g.0 pc (needed.Hint kinds address) v v1 p (before w v z n k pc (line_id l) false v.acks r) e low sized needs s in
+        let p1 = retire g.0 (effect (needed.Hint kinds address) r.core) p in
+        let slots = with_slot v.slots n (Some (issued k (line_id l) false)) in
+        let d : LineEffect = act_row (line_id l) (home_of w l) (AskRead n g.0) (p1.cells l) (p1.homes l) in
+        let shows : Shows w c (with_line v1 v1.locals v1.bus slots v.acks) (on_line w l d p1).part = shows_line w c v1 (with_line v1 v1.locals v1.bus slots v.acks) p1 l d q.shows
         (slot_turns w c v1 p1 l d slots v.acks q.shows refl
         (ap (λ i. Reads n i Asked) e ∙ sym (slot_opened w c v.slots n l (issued k (line_id l) false) f.opens.slot.below one f.opens.slot.empty f.opens.lone refl))
         (λ j apart. slot_elsewhere w c v.slots n j (Some (issued k (line_id l) false)) (ap (is_of j) f.opens.slot.empty) (test_differ l j (λ i. apart (sym i))))
         (q.shows.acks l) (λ j apart. refl) refl) in
-    let row_is = read_row w g.0 n address kinds p1 shared in
-    record {
-      guard = record { kinds = kinds; address = address; next = q.at; opens = opens_shown w c n address kinds v p s sized one f };
-      shows = subst (λ y. Shows w c z y) (sym (ap (λ (x : PartEffect). x.part) row_is)) (subst (λ y. Shows w c y (on_line w l d p1).part) (sym r.new_is) shows);
-      sent_is = ap (λ (x : PartEffect). x.sent) row_is;
-    } };
+        let row_is = read_row w g.0 n address kinds p1 shared in
+        record {
+          guard = record { kinds = kinds; address = address; next = q.at; opens = opens_shown w c n address kinds v p s sized one f };
+          shows = subst (λ y. Shows w c z y) (sym (ap (λ (x : PartEffect). x.part) row_is)) (subst (λ y. Shows w c y (on_line w l d p1).part) (sym r.new_is) shows);
+          sent_is = ap (λ (x : PartEffect). x.sent) row_is;
+        };
+  };
 }
 
 to_own : (w : Config) (c k pc address n : ℕ) (g : HartId) (v z : PartsView) → Retired w (asking_parts v n k (line_id (line_at w address)) true (begun v.acks (line_at w address))) z k 0 pc → g.0 ≡ hart_at w c k → k < w.top.harts → AreSized w c v → HartNeeds w v k (needed.Hint Exclusive address)
@@ -107,23 +113,26 @@ to_own : (w : Config) (c k pc address n : ℕ) (g : HartId) (v z : PartsView) �
 unfolding Guard row
 to_own w c k pc address n g v z r e low sized needs one f = record {
   is_of = e;
-  does = record { done = effect (needed.Hint Exclusive address) r.core; happens = λ p s.
-    let l = line_at w address in
-    let v1 = changed_local v k (record r.local { core = r.core }) in
-    let q = plain_step w c k g.0 pc (needed.Hint Exclusive address) v v1 p (before w v z n k pc (line_id l) true (begun v.acks l) r) e low sized needs s in
-    let p1 = retire g.0 (effect (needed.Hint Exclusive address) r.core) p in
-    let slots = with_slot v.slots n (Some (issued k (line_id l) true)) in
-    let d : LineEffect = act_row (line_id l) (home_of w l) (AskOwn n g.0) (p1.cells l) (p1.homes l) in
-    let shows : Shows w c (with_line v1 v1.locals v1.bus slots (begun v.acks l)) (on_line w l d p1).part = shows_line w c v1 (with_line v1 v1.locals v1.bus slots (begun v.acks l)) p1 l d q.shows
+  does = record {
+    done = effect (needed.Hint Exclusive address) r.core;
+    happens = λ p s.
+        let l = line_at w address in
+        let v1 = changed_local v k (record r.local { core = r.core }) in
+        let q = plain_step w c k g.0 pc (needed.Hint Exclusive address) v v1 p (before w v z n k pc (line_id l) true (begun v.acks l) r) e low sized needs s in
+        let p1 = retire g.0 (effect (needed.Hint Exclusive address) r.core) p in
+        let slots = with_slot v.slots n (Some (issued k (line_id l) true)) in
+        let d : LineEffect = act_row (line_id l) (home_of w l) (AskOwn n g.0) (p1.cells l) (p1.homes l) in
+        let shows : Shows w c (with_line v1 v1.locals v1.bus slots (begun v.acks l)) (on_line w l d p1).part = shows_line w c v1 (with_line v1 v1.locals v1.bus slots (begun v.acks l)) p1 l d q.shows
         (slot_turns w c v1 p1 l d slots (begun v.acks l) q.shows refl
         (ap (λ i. Owns n i Asked) e ∙ sym (slot_opened w c v.slots n l (issued k (line_id l) true) f.opens.slot.below one f.opens.slot.empty f.opens.lone refl))
         (λ j apart. slot_elsewhere w c v.slots n j (Some (issued k (line_id l) true)) (ap (is_of j) f.opens.slot.empty) (test_differ l j (λ i. apart (sym i))))
         (sym (begun-acks w c v.acks l)) (begun-elsewhere v.acks l) refl) in
-    record {
-      guard = record { kinds = Exclusive; address = address; next = q.at; opens = opens_shown w c n address Exclusive v p s sized one f };
-      shows = subst (λ y. Shows w c y (on_line w l d p1).part) (sym r.new_is) shows;
-      sent_is = refl;
-    } };
+        record {
+          guard = record { kinds = Exclusive; address = address; next = q.at; opens = opens_shown w c n address Exclusive v p s sized one f };
+          shows = subst (λ y. Shows w c y (on_line w l d p1).part) (sym r.new_is) shows;
+          sent_is = refl;
+        };
+  };
 }
 
 -- the same, with the line as the code has it
@@ -167,6 +176,6 @@ room_for w v address n f = let two = and_both (not (is_some (owner_at v.bus (lin
 
 pub begun_range : (w : Config) (c address n : ℕ) (line : LineId) (v : PartsView) → line ≡ line_id (line_at w address) → AreSized w c v → HintFits w v Exclusive address n → (q : ℕ) (e : Counted) → entry_at (begun v.acks line.0) q ≡ Some e → q < line_count w.top
 begun_range w c address n line v is sized f q e at = elim (same_or_not q line.0) [
-    | inl same ↦ subst (λ i. i < line_count w.top) (sym same) (subst (λ (i : LineId). i.0 < line_count w.top) (sym is) (line_in w.top.base w.top.memory address f.inside w.top.memory_in_pages))
-    | inr apart ↦ sized.acks_in_range q e (sym (begun-elsewhere v.acks line.0 q apart) ∙ at)
-  ]
+  | inl same ↦ subst (λ i. i < line_count w.top) (sym same) (subst (λ (i : LineId). i.0 < line_count w.top) (sym is) (line_in w.top.base w.top.memory address f.inside w.top.memory_in_pages))
+  | inr apart ↦ sized.acks_in_range q e (sym (begun-elsewhere v.acks line.0 q apart) ∙ at)
+]

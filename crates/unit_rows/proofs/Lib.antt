@@ -51,3 +51,4 @@ pub mod HintFits
 pub mod HintRows
 pub mod Leaving
 pub mod EvictRow
+pub mod Resting

@@ -1,5 +1,5 @@
 //! Prefetch hints.
-ghost use Rattle.std.specs.Prelude.{◌≡◌, ◌≢◌, ◌<◌, [], ◌∷◌, None};
+ghost use Rattle.std.specs.Prelude.{◌≡◌, ◌≢◌, ◌<◌, [], ◌∷◌, None, option_to_list};
 ghost use Rattle.dash_base.specs.declared.need.HintKind.TheVariants.{Exclusive};
 ghost use Rattle.dash_base.specs.declared.need.Need.TheVariants.{Hint};
 ghost use Rattle.hart_core.specs.Access.{in_memory};
@@ -106,4 +106,49 @@ fn hint_own(site: &Site, parts: &mut Parts, hart: u32, address: u32, slot: u32) 
         slot: Some(slot),
     };
     (hint, asking(site, line, true))
+}
+
+/// A hint that opens this slot: to own its line, or to read it.
+fn hint_opening(
+    site: &Site,
+    parts: &mut Parts,
+    hart: u32,
+    kind: HintKind,
+    address: u32,
+    slot: u32,
+) -> (Kind, Sent)
+    requires sized { AreSized (config site.now) site.now.cluster.0 (shown parts.old) }
+    requires hart { hart < site.now.topology.harts }
+    requires need { HartNeeds (config site.now) (shown parts.old) hart (Hint kind address) }
+    requires opens { HintFits (config site.now) (shown parts.old) kind address slot }
+    ensures did { DoesChoice (config site.now) site.now.cluster.0 (Step hart) result.0 (shown parts.old) (shown parts.new) (result.1 ∷ []) }
+    ensures sized { AreSized (config site.now) site.now.cluster.0 (shown parts.new) }
+{
+    match kind {
+        HintKind::Exclusive => hint_own(site, parts, hart, address, slot),
+        _ => hint_read(site, parts, hart, kind, address, slot),
+    }
+}
+
+/// A prefetch hint: what happened, and the request that it sends where it opens a slot.
+pub fn hint(
+    site: &Site,
+    parts: &mut Parts,
+    hart: u32,
+    kind: HintKind,
+    address: u32,
+) -> (Kind, Option<Sent>)
+    requires sized { AreSized (config site.now) site.now.cluster.0 (shown parts.old) }
+    requires hart { hart < site.now.topology.harts }
+    requires need { HartNeeds (config site.now) (shown parts.old) hart (Hint kind address) }
+    ensures did { DoesChoice (config site.now) site.now.cluster.0 (Step hart) result.0 (shown parts.old) (shown parts.new) (option_to_list result.1) }
+    ensures sized { AreSized (config site.now) site.now.cluster.0 (shown parts.new) }
+{
+    match opened(site, parts, kind, address) {
+        None => (hint_nothing(site, parts, hart, kind, address), None),
+        Some(slot) => {
+            let (event, sent) = hint_opening(site, parts, hart, kind, address, slot);
+            (event, Some(sent))
+        }
+    }
 }
