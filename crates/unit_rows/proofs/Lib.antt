@@ -26,3 +26,5 @@ pub mod InstallRow
 pub mod InstallFits
 pub mod Leaving
 pub mod EvictRow
+pub mod EmptySlots
+pub mod AskRow

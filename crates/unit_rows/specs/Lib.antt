@@ -11,3 +11,4 @@ pub mod LineNeeds
 pub mod BusFits
 pub mod SlotFits
 pub mod EvictFits
+pub mod AskFits
