@@ -77,12 +77,12 @@ there t q n (Some e) is low some = low e is
 
 pub owing_range : (t : TableView) (l k n : ℕ) → ((q : ℕ) (e : Counted) → entry_at t q ≡ Some e → q < n) → (q : ℕ) (e : Counted) → entry_at (owing t l k) q ≡ Some e → q < n
 owing_range t l k n low q e is = elim (same_or_not q l) [
-    | inl s ↦
-        let here : option_and_then (λ x. Some (also_owed k x)) (entry_at t l) ≡ Some e =
-            sym (entry_at-changed t l (λ x. Some (also_owed k x)) q ∙ ap (λ b. cond b (option_and_then (λ x. Some (also_owed k x)) (entry_at t l)) (entry_at t q)) (ap (λ y. y == l) s ∙ test_same l)) ∙ is in
-        subst (λ y. y < n) (sym s) (there t l n (entry_at t l) refl (low l) (was_there (also_owed k) (entry_at t l) e here))
-    | inr apart ↦ low q e (sym (owing-elsewhere t l k q apart) ∙ is)
-  ]
+  | inl s ↦
+      let here : option_and_then (λ x. Some (also_owed k x)) (entry_at t l) ≡ Some e =
+      sym (entry_at-changed t l (λ x. Some (also_owed k x)) q ∙ ap (λ b. cond b (option_and_then (λ x. Some (also_owed k x)) (entry_at t l)) (entry_at t q)) (ap (λ y. y == l) s ∙ test_same l)) ∙ is in
+      subst (λ y. y < n) (sym s) (there t l n (entry_at t l) refl (low l) (was_there (also_owed k) (entry_at t l) e here))
+  | inr apart ↦ low q e (sym (owing-elsewhere t l k q apart) ∙ is)
+]
 
 pub owing_capacity : (t : TableView) (l k : ℕ) → (owing t l k).capacity ≡ t.capacity
 owing_capacity t l k = capacity-changed t l (λ e. Some (also_owed k e)) (entry_at t l)

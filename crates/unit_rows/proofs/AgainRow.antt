@@ -81,7 +81,7 @@ pub asks_again : (w : Config) (c n : ℕ) (v : PartsView) (s : Request) (slots :
 asks_again w c n v s slots sent low one f slots_is sent_is =
     rw (slots_is, sent_is)
     (let base : DoesChoice w c (Again n) (kind.Again n s.line) v (with_line v v.locals v.bus (with_slot v.slots n (asked_again (slot_at v.slots n))) v.acks) (to (home_of w s.line.0) (request_for s.line s.own) ∷ []) =
-        record { is_of = refl; does = record { done = no_instruction w; happens = λ p shows. again_shown w c n v s p low one f shows } } in base)
+    record { is_of = refl; does = record { done = no_instruction w; happens = λ p shows. again_shown w c n v s p low one f shows } } in base)
 
 pub sized_again : (w : Config) (c n : ℕ) (v : PartsView) (s : Request) (slots : SlotsView) → n < slot_count v.slots → AreSized w c v → AgainFits v n s → slots ≡ with_slot v.slots n (asked_again (slot_at v.slots n)) → AreSized w c (with_line v v.locals v.bus slots v.acks)
 sized_again w c n v s slots low sized f slots_is =

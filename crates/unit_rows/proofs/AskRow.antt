@@ -80,4 +80,4 @@ pub asks : (w : Config) (c n k : ℕ) (h : HartId) (l : LineId) (own : Bool) (v 
 asks w c n k h l own v slots acks sent low inside one f h_is slots_is acks_is sent_is =
     rw (h_is, slots_is, acks_is, sent_is)
     (let base : DoesChoice w c (Ask n) (kind.Ask n (hart_id (hart_at w c k)) l own) v (after v n k l own) (to (home_of w l.0) (request_for l own) ∷ []) =
-        record { is_of = refl; does = record { done = no_instruction w; happens = λ p shows. ask_shown w c n k l own v p low inside one f shows } } in base)
+    record { is_of = refl; does = record { done = no_instruction w; happens = λ p shows. ask_shown w c n k l own v p low inside one f shows } } in base)

@@ -88,7 +88,7 @@ pub reads_from_bus : (w : Config) (c k : ℕ) (v : PartsView) (h : HartId) (l : 
 reads_from_bus w c k v h l b low sized map f h_is b_is =
     rw (b_is, h_is)
     (let base : DoesChoice w c (BusRead k l) (kind.BusRead (hart_id (hart_at w c k)) l) v (with_line v v.locals (after_bus_read v.bus k l.0) v.slots v.acks) [] =
-        record { is_of = (refl, refl); does = record { done = no_instruction w; happens = λ p shows. read_shown w c k l.0 v p low sized map f shows } } in base)
+    record { is_of = (refl, refl); does = record { done = no_instruction w; happens = λ p shows. read_shown w c k l.0 v p low sized map f shows } } in base)
 
 pub sized_read : (w : Config) (c k l : ℕ) (v : PartsView) (b : BusView) → AreSized w c v → b ≡ after_bus_read v.bus k l → AreSized w c (with_line v v.locals b v.slots v.acks)
 sized_read w c k l v b sized b_is = subst (λ y. AreSized w c (with_line v v.locals y v.slots v.acks)) (sym b_is) (sized_bus w c v v.locals nobody l (joined_by k (holding_at v.bus l)) sized (same_sizes w v.locals))
@@ -127,7 +127,7 @@ owns_from_bus w c k n m v h l b locals low sized map f h_is b_is n_is m_is are =
     let swept = swept_between w l.0 n m v.bus b (all_but k) (owned_by k (holding_at v.bus l.0)) v.locals locals b_is n_is m_is are in
     rw (b_is, h_is)
     (let base : DoesChoice w c (BusOwn k l) (kind.BusOwn (hart_id (hart_at w c k)) l) v (with_line v locals (after_bus_own v.bus k l.0) v.slots v.acks) [] =
-        record { is_of = (refl, refl); does = record { done = no_instruction w; happens = λ p shows. own_shown w c k l.0 v locals p low sized map f swept shows } } in base)
+    record { is_of = (refl, refl); does = record { done = no_instruction w; happens = λ p shows. own_shown w c k l.0 v locals p low sized map f swept shows } } in base)
 
 pub sized_own : (w : Config) (c k l n m : ℕ) (v : PartsView) (b : BusView) (locals : List Local) → AreSized w c v → b ≡ after_bus_own v.bus k l → AreSwept w l n m v.locals locals → AreSized w c (with_line v locals b v.slots v.acks)
 sized_own w c k l n m v b locals sized b_is are = subst (λ y. AreSized w c (with_line v locals y v.slots v.acks)) (sym b_is) (sized_bus w c v locals (all_but k) l (owned_by k (holding_at v.bus l)) sized (swept_sizes w l n m v.locals locals are))

@@ -62,9 +62,9 @@ line_shown w c k v p x l next low sized map owner shows =
     let same : holders_in (rewritten next (holding_at v.bus l)) ≡ holders_at v.bus l = holders_stay next (holding_at v.bus l) in
     shows_line w c (with_local v k (committed x)) (after v k x l next) p l (act_row (line_id l) (home_of w l) (Commits (hart_at w c k) next) (p.cells l) (p.homes l)) shows
     (line_turns w c (with_local v k (committed x)) p l (act_row (line_id l) (home_of w l) (Commits (hart_at w c k) next) (p.cells l) (p.homes l)) nobody (rewritten next (holding_at v.bus l)) (slice_set v.locals k (committed x)) v.slots (owing v.acks l k) shows
-        (harts_stay w c (with_local v k (committed x)) p l nobody (rewritten next (holding_at v.bus l)) (commit_copy next (p.cells l).copy) (length-set v.locals k (committed x) ∙ sized.locals) sized.bus_harts map shows (none_leave w v.bus l (rewritten next (holding_at v.bus l)) same) copy (λ j below has. ap (λ n. has_hart n j) same ∙ has))
-        copy (shows.slots l) (λ q apart. refl)
-        (ap (owe (hart_at w c k)) (shows.acks l) ∙ owing-acks w c k v.acks l low) (owing-elsewhere v.acks l k) refl)
+    (harts_stay w c (with_local v k (committed x)) p l nobody (rewritten next (holding_at v.bus l)) (commit_copy next (p.cells l).copy) (length-set v.locals k (committed x) ∙ sized.locals) sized.bus_harts map shows (none_leave w v.bus l (rewritten next (holding_at v.bus l)) same) copy (λ j below has. ap (λ n. has_hart n j) same ∙ has))
+    copy (shows.slots l) (λ q apart. refl)
+    (ap (owe (hart_at w c k)) (shows.acks l) ∙ owing-acks w c k v.acks l low) (owing-elsewhere v.acks l k) refl)
 
 -- the event happens
 happens : (w : Config) (c k : ℕ) (v : PartsView) (e : Stored) (d : Line) (f : CommitFits w v k e d) → k < w.top.harts → AreSized w c v → IsOneMap v.bus → (p : Part) → Shows w c v p
@@ -77,7 +77,7 @@ happens w c k v e d f low sized map p shows =
     let stores : (p.harts h).buffer ≡ e ∷ drop 1 f.local.buffer.items = s.buffer ∙ head_of f.local.buffer.items e f.head in
     let is : content (p.cells l).copy ≡ d = ap content (shows.copies l) ∙ content-copy_by w c d (holding_at v.bus l) f.copy_is in
     let row_is : commit_row w h l (p.harts h).buffer p ≡ acts w l (Commits h (written_in w e.word.0 e.mask e.value d)) (change h (record (p.harts h) { buffer = drop 1 f.local.buffer.items }) p) =
-        ap (λ b. commit_row w h l b p) stores ∙ ap (λ x. acts w l (Commits h (written_in w e.word.0 e.mask e.value x)) (change h (record (p.harts h) { buffer = drop 1 f.local.buffer.items }) p)) is in
+    ap (λ b. commit_row w h l b p) stores ∙ ap (λ x. acts w l (Commits h (written_in w e.word.0 e.mask e.value x)) (change h (record (p.harts h) { buffer = drop 1 f.local.buffer.items }) p)) is in
     record {
       guard = record {
         mine = cluster_is w c k low;
@@ -101,11 +101,11 @@ pub commits : (w : Config) (c k : ℕ) (v : PartsView) (e : Stored) (d next : Li
 commits w c k v e d next h l x locals b acks f low sized map h_is l_is next_is x_is locals_is b_is acks_is =
     rw (locals_is, b_is, acks_is, one_local v.locals k x f.local (subst (λ n. k < n) (sym sized.locals) low) x_is f.is_local, h_is, l_is, next_is)
     (let base : DoesChoice w c (Commit k) (kind.Commit (hart_id (hart_at w c k)) e.number (line_id (line_at w e.word.0)) (written_in w e.word.0 e.mask e.value d).version) v (after v k f.local (line_at w e.word.0) (written_in w e.word.0 e.mask e.value d)) [] =
-        record { is_of = refl; does = record { done = no_instruction w; happens = happens w c k v e d f low sized map } } in base)
+    record { is_of = refl; does = record { done = no_instruction w; happens = happens w c k v e d f low sized map } } in base)
 
 pub sized_committed : (w : Config) (c k : ℕ) (v : PartsView) (next : Line) (l : ℕ) (x : Local) (locals : List Local) (b : BusView) (acks : TableView) → k < w.top.harts → AreSized w c v → x ≡ slice_index_or v.locals k x
     → locals ≡ slice_set v.locals k (committed x) → b ≡ after_commit v.bus l next → acks ≡ owing v.acks l k → AreSized w c (with_line v locals b v.slots acks)
 sized_committed w c k v next l x locals b acks low sized here locals_is b_is acks_is =
     rw (locals_is, b_is, acks_is)
     (let base : AreSized w c (after v k x l next) =
-        sized_line w c v (slice_set v.locals k (committed x)) nobody l (rewritten next (holding_at v.bus l)) v.slots (owing v.acks l k) sized (set_sizes w v.locals k (committed x) x (subst (λ n. k < n) (sym sized.locals) low) here refl) refl refl sized.slots_in_range (owing_capacity v.acks l k) (owing_range v.acks l k (line_count w.top) sized.acks_in_range) in base)
+    sized_line w c v (slice_set v.locals k (committed x)) nobody l (rewritten next (holding_at v.bus l)) v.slots (owing v.acks l k) sized (set_sizes w v.locals k (committed x) x (subst (λ n. k < n) (sym sized.locals) low) here refl) refl refl sized.slots_in_range (owing_capacity v.acks l k) (owing_range v.acks l k (line_count w.top) sized.acks_in_range) in base)

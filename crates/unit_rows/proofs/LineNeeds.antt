@@ -75,13 +75,15 @@ copy_told w c k v p x need low sized here next shows q n =
 
 pub copy_needed : (w : Config) (c k : ℕ) (v : PartsView) (x : Local) (need : Need) (l : LineId) → k < w.top.harts → AreSized w c v → x ≡ slice_index_or v.locals k x → IsNext w.image w.top x.core need → load_line w x.buffer.items need ≡ Some l → is_holder v.bus k l.0 ≡ false → IsNeeded (λ q p. NeedsCopy w (hart_at w c k) q p) w c v (Some l)
 copy_needed w c k v x need l low sized here next line lacks p shows =
-    let s = shown_hart w c v p k x low sized shows here in
-    (record {
-      need = need;
-      needs = subst (λ y. Needs w.image w.top y need) (sym s.core) (next_needs w.image w.top x.core need next (loads_something w x.buffer.items l need line));
-      loads = loads_from w l (p.harts (hart_at w c k)) need (ap (λ es. load_line w es need) s.buffer ∙ line);
-      lacks = ap (held_by (hart_at w c k)) (shows.copies l.0) ∙ held-copy_by w c k (holding_at v.bus l.0) low ∙ lacks;
-    }, λ q n. let same : Some (line_id q) ≡ Some l = sym (copy_told w c k v p x need low sized here next shows q n) ∙ line in let is : line_id q ≡ l = cc in ap (λ (y : LineId). y.0) is)
+    let s = shown_hart w c v p k x low sized shows here in (
+      record {
+        need = need;
+        needs = subst (λ y. Needs w.image w.top y need) (sym s.core) (next_needs w.image w.top x.core need next (loads_something w x.buffer.items l need line));
+        loads = loads_from w l (p.harts (hart_at w c k)) need (ap (λ es. load_line w es need) s.buffer ∙ line);
+        lacks = ap (held_by (hart_at w c k)) (shows.copies l.0) ∙ held-copy_by w c k (holding_at v.bus l.0) low ∙ lacks;
+      },
+      λ q n. let same : Some (line_id q) ≡ Some l = sym (copy_told w c k v p x need low sized here next shows q n) ∙ line in let is : line_id q ≡ l = cc in ap (λ (y : LineId). y.0) is,
+    )
 
 pub copy_unneeded : (w : Config) (c k : ℕ) (v : PartsView) (x : Local) (need : Need) → k < w.top.harts → AreSized w c v → x ≡ slice_index_or v.locals k x → IsNext w.image w.top x.core need → load_line w x.buffer.items need ≡ None → (p : Part) → Shows w c v p → (q : ℕ) → NeedsCopy w (hart_at w c k) q p → ⊥
 copy_unneeded w c k v x need low sized here next line p shows q n = let f : Some (line_id q) ≡ None = sym (copy_told w c k v p x need low sized here next shows q n) ∙ line in absurd (cc)
@@ -134,13 +136,15 @@ write_told w c k v p x need low sized here next shows q n =
 
 pub write_needed : (w : Config) (c k : ℕ) (v : PartsView) (x : Local) (need : Need) (l : LineId) → k < w.top.harts → AreSized w c v → IsOneMap v.bus → x ≡ slice_index_or v.locals k x → IsNext w.image w.top x.core need → write_line w x.reserved need ≡ Some l → owns_alone v.bus k l.0 ≡ false → IsNeeded (λ q p. FrontNeed w (hart_at w c k) q p) w c v (Some l)
 write_needed w c k v x need l low sized map here next line lacks p shows =
-    let s = shown_hart w c v p k x low sized shows here in
-    (record {
-      need = need;
-      needs = subst (λ y. Needs w.image w.top y need) (sym s.core) (next_needs w.image w.top x.core need next (writes_something w x.reserved l need line));
-      writes = writes_to w l (p.harts (hart_at w c k)) x.reserved need s.reserved line;
-      lacks = in_m-owns_alone w c k l.0 v p low sized.bus_harts map shows ∙ lacks;
-    }, λ q n. let same : Some (line_id q) ≡ Some l = sym (write_told w c k v p x need low sized here next shows q n) ∙ line in let is : line_id q ≡ l = cc in ap (λ (y : LineId). y.0) is)
+    let s = shown_hart w c v p k x low sized shows here in (
+      record {
+        need = need;
+        needs = subst (λ y. Needs w.image w.top y need) (sym s.core) (next_needs w.image w.top x.core need next (writes_something w x.reserved l need line));
+        writes = writes_to w l (p.harts (hart_at w c k)) x.reserved need s.reserved line;
+        lacks = in_m-owns_alone w c k l.0 v p low sized.bus_harts map shows ∙ lacks;
+      },
+      λ q n. let same : Some (line_id q) ≡ Some l = sym (write_told w c k v p x need low sized here next shows q n) ∙ line in let is : line_id q ≡ l = cc in ap (λ (y : LineId). y.0) is,
+    )
 
 pub write_unneeded : (w : Config) (c k : ℕ) (v : PartsView) (x : Local) (need : Need) → k < w.top.harts → AreSized w c v → x ≡ slice_index_or v.locals k x → IsNext w.image w.top x.core need → write_line w x.reserved need ≡ None → (p : Part) → Shows w c v p → (q : ℕ) → FrontNeed w (hart_at w c k) q p → ⊥
 write_unneeded w c k v x need low sized here next line p shows q n = let f : Some (line_id q) ≡ None = sym (write_told w c k v p x need low sized here next shows q n) ∙ line in absurd (cc)
@@ -173,11 +177,13 @@ store_told w c k v p x low sized here shows q n =
 
 pub store_needed : (w : Config) (c k : ℕ) (v : PartsView) (x : Local) (l : LineId) → k < w.top.harts → AreSized w c v → IsOneMap v.bus → x ≡ slice_index_or v.locals k x → store_line w x.buffer.items ≡ Some l → owns_alone v.bus k l.0 ≡ false → IsNeeded (λ q p. StoreNeed w (hart_at w c k) q p) w c v (Some l)
 store_needed w c k v x l low sized map here line lacks p shows =
-    let s = shown_hart w c v p k x low sized shows here in
-    (record {
-      oldest = head_line w l (p.harts (hart_at w c k)).buffer (ap (store_line w) s.buffer ∙ line);
-      lacks = in_m-owns_alone w c k l.0 v p low sized.bus_harts map shows ∙ lacks;
-    }, λ q n. let same : Some (line_id q) ≡ Some l = sym (store_told w c k v p x low sized here shows q n) ∙ line in let is : line_id q ≡ l = cc in ap (λ (y : LineId). y.0) is)
+    let s = shown_hart w c v p k x low sized shows here in (
+      record {
+        oldest = head_line w l (p.harts (hart_at w c k)).buffer (ap (store_line w) s.buffer ∙ line);
+        lacks = in_m-owns_alone w c k l.0 v p low sized.bus_harts map shows ∙ lacks;
+      },
+      λ q n. let same : Some (line_id q) ≡ Some l = sym (store_told w c k v p x low sized here shows q n) ∙ line in let is : line_id q ≡ l = cc in ap (λ (y : LineId). y.0) is,
+    )
 
 pub store_unneeded : (w : Config) (c k : ℕ) (v : PartsView) (x : Local) → k < w.top.harts → AreSized w c v → x ≡ slice_index_or v.locals k x → store_line w x.buffer.items ≡ None → (p : Part) → Shows w c v p → (q : ℕ) → StoreNeed w (hart_at w c k) q p → ⊥
 store_unneeded w c k v x low sized here line p shows q n = let f : Some (line_id q) ≡ None = sym (store_told w c k v p x low sized here shows q n) ∙ line in absurd (cc)

@@ -24,4 +24,4 @@ by_same w c v p k l q low sized shows room holds index apart =
     let f : true ≡ false = sym holds ∙ sym (held_is w c v p k q low shows) ∙ room q apart (subst (λ n. q % n ≡ l % n) sized.l2 index) in absurd (cc)
 
 pub room_code : (w : Config) (c : ℕ) (v : PartsView) (p : Part) (k l : ℕ) → k < w.top.harts → AreSized w c v → Shows w c v p → Room w (hart_at w c k) l p → HasHartRoom v.bus k l
-room_code w c v p k l low sized shows room = record { alone = λ q holds index. elim (same_or_not q l) [ | inl e ↦ e | inr n ↦ absurd (by_same w c v p k l q low sized shows room holds index n) ] }
+room_code w c v p k l low sized shows room = record { alone = λ q holds index. elim (same_or_not q l) [ inl e ↦ e | inr n ↦ absurd (by_same w c v p k l q low sized shows room holds index n) ] }

@@ -37,9 +37,9 @@ slot_turns w c v p l d slots acks shows copy slot other_slots entry other_entrie
 pub slots_range : (w : Config) (v : SlotsView) (n : ℕ) (o : Option Request) → n < slot_count v → ((m : ℕ) (s : Request) → slot_at v m ≡ Some s → (s.hart < w.top.harts) × (s.line.0 < line_count w.top)) → ((s : Request) → o ≡ Some s → (s.hart < w.top.harts) × (s.line.0 < line_count w.top))
     → (m : ℕ) (s : Request) → slot_at (with_slot v n o) m ≡ Some s → (s.hart < w.top.harts) × (s.line.0 < line_count w.top)
 slots_range w v n o low old new m s is = elim (same_or_not m n) [
-    | inl e ↦ new s (sym (set_slots_stand.here v n o low) ∙ ap (slot_at (with_slot v n o)) (sym e) ∙ is)
-    | inr apart ↦ old m s (sym (set_slots_stand.others v n m o apart) ∙ is)
-  ]
+  | inl e ↦ new s (sym (set_slots_stand.here v n o low) ∙ ap (slot_at (with_slot v n o)) (sym e) ∙ is)
+  | inr apart ↦ old m s (sym (set_slots_stand.others v n m o apart) ∙ is)
+]
 
 pub slots_count : (v : SlotsView) (n : ℕ) (o : Option Request) → slot_count (with_slot v n o) ≡ slot_count v
 slots_count v n o = length-set v.slots n o

@@ -63,6 +63,7 @@ opened_one v n line s low one empty free is = record { one = λ q i j a b. both 
   where
     mine : (q m : ℕ) → is_of q s ≡ true → is_of q (slot_at v m) ≡ true → ⊥
     mine q m new old = let same : line ≡ q = (let t : (line == q) ≡ true = sym (is q) ∙ new in grind (arith, nat_tests)) in let f : is_of q (slot_at v m) ≡ false = subst (λ y. is_of y (slot_at v m) ≡ false) same (lines_have_one_slot.none v line m free) in absurd (cc)
+
     both : (q i j : ℕ) (s_i s_j : Bool) → (i == n) ≡ s_i → (j == n) ≡ s_j → cond s_i (is_of q s) (is_of q (slot_at v i)) ≡ true → cond s_j (is_of q s) (is_of q (slot_at v j)) ≡ true → i ≡ j
     both q i j true true ei ej a b = grind (arith, nat_tests)
     both q i j true false ei ej a b = absurd (mine q j a b)

@@ -33,19 +33,19 @@ reserved_word w l (Some a) = reserved_if a (line_at w a.0 == l)
 one_line : (q l : ℕ) (o : Option ℕ) → is_line l o ≡ true → false ≡ (not (q == l) && is_line q o)
 one_line q l None e = absurd (cc)
 one_line q l (Some k) e = elim (same_or_not q l) [
-    | inl s ↦ sym (ap (λ i. not i && (k == q)) (ap (λ y. y == l) s ∙ test_same l))
-    | inr n ↦ let other : (k == q) ≡ false = grind (arith, nat_tests) in sym (ap₂ (λ i j. not i && j) (test_differ q l n) other)
-  ]
+  | inl s ↦ sym (ap (λ i. not i && (k == q)) (ap (λ y. y == l) s ∙ test_same l))
+  | inr n ↦ let other : (k == q) ≡ false = grind (arith, nat_tests) in sym (ap₂ (λ i j. not i && j) (test_differ q l n) other)
+]
 
 lost_at : (f : ℕ → Option ℕ) (q l i j : ℕ) → (q ≡ l → i ≡ j) → (t : Bool) → is_line l (f j) ≡ t → is_line q (cond t (upd f j None) f i) ≡ (not (q == l) && is_line q (f i))
 lost_at f q l i j one true e = elim (same_or_not i j) [
-    | inl s ↦ ap (λ b. is_line q (cond b None (f i))) (ap (λ y. y == j) s ∙ test_same j) ∙ one_line q l (f i) (ap (λ y. is_line l (f y)) s ∙ e)
-    | inr n ↦ ap (λ b. is_line q (cond b None (f i))) (test_differ i j n) ∙ sym (ap (λ b. not b && is_line q (f i)) (test_differ q l (λ s. n (one s))))
-  ]
+  | inl s ↦ ap (λ b. is_line q (cond b None (f i))) (ap (λ y. y == j) s ∙ test_same j) ∙ one_line q l (f i) (ap (λ y. is_line l (f y)) s ∙ e)
+  | inr n ↦ ap (λ b. is_line q (cond b None (f i))) (test_differ i j n) ∙ sym (ap (λ b. not b && is_line q (f i)) (test_differ q l (λ s. n (one s))))
+]
 lost_at f q l i j one false e = elim (same_or_not q l) [
-    | inl s ↦ ap₂ (λ y z. is_line y (f z)) s (one s) ∙ e ∙ sym (ap (λ b. not b && is_line q (f i)) (ap (λ y. y == l) s ∙ test_same l))
-    | inr n ↦ sym (ap (λ b. not b && is_line q (f i)) (test_differ q l n))
-  ]
+  | inl s ↦ ap₂ (λ y z. is_line y (f z)) s (one s) ∙ e ∙ sym (ap (λ b. not b && is_line q (f i)) (ap (λ y. y == l) s ∙ test_same l))
+  | inr n ↦ sym (ap (λ b. not b && is_line q (f i)) (test_differ q l n))
+]
 
 lost_l1 : (w : Config) (l : ℕ) (f : ℕ → Option ℕ) (q : ℕ) → is_line q (l1_without w l f (q % w.top.l1)) ≡ (not (q == l) && is_line q (f (q % w.top.l1)))
 lost_l1 w l f q = lost_at f q l (q % w.top.l1) (l % w.top.l1) (λ s. ap (λ y. y % w.top.l1) s) (is_line l (f (l % w.top.l1))) refl
@@ -99,8 +99,8 @@ harts_swept w c v p l passes o next locals count bus_count map shows leaves next
     let after : held_by (hart_at w c k) next ≡ has_hart (holders_in o) k = ap (held_by (hart_at w c k)) next_is ∙ held-copy_by w c k o low in
     let lost : (held_by (hart_at w c k) (p.cells l).copy && not (held_by (hart_at w c k) next)) ≡ is_lost (holders_at v.bus l) (holders_in o) k = ap₂ (λ i j. i && not j) before after in
     let one = one_hart w v.bus passes l o k (slice_index_or v.locals k x) (p.harts (hart_at w c k)) (is_lost (holders_at v.bus l) (holders_in o) k) (shows.harts k x low)
-        (goes_by (has_hart (holders_at v.bus l) k) (has_hart (holders_in o) k) (passes k) (leaves.lost k low))
-        (stays_by (has_hart (holders_at v.bus l) k) (has_hart (holders_in o) k) (passes k) (in_hart_l1 v.bus k l) (leaves.stays k low) (map.l1 k l (subst (λ n. k < n) (sym bus_count) low))) in
+    (goes_by (has_hart (holders_at v.bus l) k) (has_hart (holders_in o) k) (passes k) (leaves.lost k low))
+    (stays_by (has_hart (holders_at v.bus l) k) (has_hart (holders_in o) k) (passes k) (in_hart_l1 v.bus k l) (leaves.stays k low) (map.l1 k l (subst (λ n. k < n) (sym bus_count) low))) in
     subst (λ y. ShowsHart w (changed v.bus passes l o) k y (cleared_where_lost w l (p.cells l).copy next (hart_at w c k) (p.harts (hart_at w c k)))) (sym (are.each k x (subst (λ n. k < n) (sym count) low)))
     (subst (λ y. ShowsHart w (changed v.bus passes l o) k (swept w l (is_lost (holders_at v.bus l) (holders_in o) k) (slice_index_or v.locals k x)) (cleared_if w l y (p.harts (hart_at w c k)))) (sym lost) one)
 
