@@ -72,9 +72,9 @@ owner_shown w c k l v d locals p low sized map f owner copy are shows =
     let e : LineEffect = record { cell = record (p.cells l) { copy = NoCopy }; home = p.homes l; sent = to (home_of w l) (WriteBack (line_id l) d) ∷ [] } in
     let owns : is_owner h (p.cells l).copy ≡ true = ap (is_owner h) (shows.copies l) ∙ is_owner-copy_by w c k (holding_at v.bus l) ∙ ap (λ o. bus.is_owner o k) owner ∙ test_same k in
     let row_is : act_row (line_id l) (home_of w l) (evict_act h (p.cells l).copy) (p.cells l) (p.homes l) ≡ e =
-        ap (λ b. act_row (line_id l) (home_of w l) (cond b (Gives h) (Drops h)) (p.cells l) (p.homes l)) owns
-        ∙ ap (λ x. evict_row (line_id l) (home_of w l) x (p.cells l) (p.homes l)) (shows.copies l)
-        ∙ gives_up (line_id l) (home_of w l) w c (holding_at v.bus l) d k (p.cells l) (p.homes l) owner copy in
+    ap (λ b. act_row (line_id l) (home_of w l) (cond b (Gives h) (Drops h)) (p.cells l) (p.homes l)) owns
+    ∙ ap (λ x. evict_row (line_id l) (home_of w l) x (p.cells l) (p.homes l)) (shows.copies l)
+    ∙ gives_up (line_id l) (home_of w l) w c (holding_at v.bus l) d k (p.cells l) (p.homes l) owner copy in
     record {
       guard = fits w c k l v p low f shows;
       shows = subst (λ (x : LineEffect). Shows w c z (on_line w l x p).part) (sym row_is)
@@ -135,11 +135,11 @@ pub owner_evicts : (w : Config) (c k : ℕ) (v : PartsView) (g : HartId) (l : Li
 owner_evicts w c k v g l d b locals sent low sized map f owner copy g_is b_is sent_is are =
     rw (b_is, g_is, sent_is)
     (let base : DoesChoice w c (Evict k l) (kind.Evict (hart_id (hart_at w c k)) l) v (with_line v locals (after_clear v.bus l.0) v.slots v.acks) (to (home_of w l.0) (WriteBack l d) ∷ []) =
-        record { is_of = (refl, refl); does = record { done = no_instruction w; happens = λ p shows. owner_shown w c k l.0 v d locals p low sized map f owner copy are shows } } in base)
+    record { is_of = (refl, refl); does = record { done = no_instruction w; happens = λ p shows. owner_shown w c k l.0 v d locals p low sized map f owner copy are shows } } in base)
 
 pub holder_evicts : (w : Config) (c k : ℕ) (v : PartsView) (g : HartId) (l : LineId) (h : Holding) (b : BusView) (locals : List Local) → k < w.top.harts → w.top.harts ≤ 4 → AreSized w c v → IsOneMap v.bus → EvictFits w c v k l.0 → holding_at v.bus l.0 ≡ Some h → bus.is_owner h.owner k ≡ false
     → g ≡ hart_id (hart_at w c k) → b ≡ after_drop v.bus k l.0 → AreSwept w l.0 (holders_at v.bus l.0) (holders_in (left_by k (Some h))) v.locals locals → DoesChoice w c (Evict k l) (kind.Evict g l) v (with_line v locals b v.slots v.acks) []
 holder_evicts w c k v g l h b locals low few sized map f at apart g_is b_is are =
     rw (b_is ∙ ap (λ o. changed v.bus (only k) l.0 (left_by k o)) at, g_is)
     (let base : DoesChoice w c (Evict k l) (kind.Evict (hart_id (hart_at w c k)) l) v (with_line v locals (changed v.bus (only k) l.0 (left_by k (Some h))) v.slots v.acks) [] =
-        record { is_of = (refl, refl); does = record { done = no_instruction w; happens = λ p shows. holder_shown w c k l.0 v h locals p low few sized map f at apart are shows } } in base)
+    record { is_of = (refl, refl); does = record { done = no_instruction w; happens = λ p shows. holder_shown w c k l.0 v h locals p low few sized map f at apart are shows } } in base)

@@ -85,9 +85,9 @@ line_shown w c n v s d x locals q low one map sized f are slot shows =
     subst (λ (y : LineEffect). Shows w c (after v n s d locals) (on_line w l y q).part) (sym row_is)
     (shows_line w c (with_local v s.hart x) (after v n s d locals) q l e shows
     (line_turns w c (with_local v s.hart x) q l e (all_but s.hart) o locals (with_slot v.slots n None) v.acks shows
-        (harts_swept w c (with_local v s.hart x) q l (all_but s.hart) o (Held (t ∷ []) (cond s.own (Some t) None) d) locals (length-set v.locals s.hart x ∙ sized.locals) sized.bus_harts map shows (alone_leave w v.bus s.hart l o refl) copy are)
-        copy (sym (slot_closed w c v.slots n l low one (on_line_of v.slots n s f.at))) (λ m apart. slot_elsewhere w c v.slots n m None (off_line_of v.slots n m s f.at apart) refl)
-        (shows.acks l) (λ m apart. refl) refl))
+    (harts_swept w c (with_local v s.hart x) q l (all_but s.hart) o (Held (t ∷ []) (cond s.own (Some t) None) d) locals (length-set v.locals s.hart x ∙ sized.locals) sized.bus_harts map shows (alone_leave w v.bus s.hart l o refl) copy are)
+    copy (sym (slot_closed w c v.slots n l low one (on_line_of v.slots n s f.at))) (λ m apart. slot_elsewhere w c v.slots n m None (off_line_of v.slots n m s f.at apart) refl)
+    (shows.acks l) (λ m apart. refl) refl))
 
 install_shown : (w : Config) (c n : ℕ) (v : PartsView) (s : Request) (d : Line) (x : Local) (locals : List Local) (p : Part) → n < slot_count v.slots → IsOnePerLine v.slots.slots → IsOneMap v.bus → AreSized w c v → InstallFits w v n s d
     → x ≡ slice_index_or v.locals s.hart x → AreSwept w s.line.0 (holders_at v.bus s.line.0) (holders_in (bus.held_by s.hart d s.own)) (slice_set v.locals s.hart (swept w s.line.0 (clears v s) x)) locals → Shows w c v p
@@ -97,13 +97,13 @@ install_shown w c n v s d x locals p low one map sized f here are shows =
     let l = s.line.0 in
     let t = hart_at w c s.hart in
     let slot : (p.cells l).slot ≡ has_come s.own n t d =
-        shows.slots l ∙ slot_is w c v.slots l n one (on_line_of v.slots n s f.at) ∙ ap (slot_by w c n) f.at ∙ ap (λ y. cond s.own (Owns n t (phase_by y)) (Reads n t (phase_by y))) f.came in
+    shows.slots l ∙ slot_is w c v.slots l n one (on_line_of v.slots n s f.at) ∙ ap (slot_by w c n) f.at ∙ ap (λ y. cond s.own (Owns n t (phase_by y)) (Reads n t (phase_by y))) f.came in
     let holder : held_by t (p.cells l).copy ≡ is_holder v.bus s.hart l = held_is w c v p s.hart l f.local shows in
     let hart : kept w l (p.cells l).slot (held_by t (p.cells l).copy) (p.harts t) ≡ kept_if w l (clears v s) (p.harts t) =
-        ap₂ (λ y z. kept w l y z (p.harts t)) slot holder ∙ kept_is w l n t d s.own (is_holder v.bus s.hart l) (p.harts t) in
+    ap₂ (λ y z. kept w l y z (p.harts t)) slot holder ∙ kept_is w l n t d s.own (is_holder v.bus s.hart l) (p.harts t) in
     let row_is : install w t l p ≡ acts w l Installs (change t (kept_if w l (clears v s) (p.harts t)) p) = ap (λ y. acts w l Installs (change t y p)) hart in
     let all = line_shown w c n v s d (swept w l (clears v s) x) locals (change t (kept_if w l (clears v s) (p.harts t)) p) low one map sized f are slot
-        (shows_change w c v p s.hart (swept w l (clears v s) x) (kept_if w l (clears v s) (p.harts t)) f.local sized.locals shows (kept_shown w v.bus l s.hart x (p.harts t) (clears v s) (shown_hart w c v p s.hart x f.local sized shows here))) in
+    (shows_change w c v p s.hart (swept w l (clears v s) x) (kept_if w l (clears v s) (p.harts t)) f.local sized.locals shows (kept_shown w v.bus l s.hart x (p.harts t) (clears v s) (shown_hart w c v p s.hart x f.local sized shows here))) in
     let quiet : (acts w l Installs (change t (kept_if w l (clears v s) (p.harts t)) p)).sent ≡ [] = ap (λ y. (install_row y (p.cells l) (p.homes l)).sent) slot ∙ ap (λ (y : LineEffect). y.sent) (install_is n t d s.own (p.cells l) (p.homes l)) in
     record {
       guard = record {
@@ -124,7 +124,7 @@ installs w c n a m v s d h x y b slots first locals clear low one map sized f h_
     let swept_now = subst (λ z. AreSwept w s.line.0 (holders_at v.bus s.line.0) (holders_in (bus.held_by s.hart d s.own)) z locals) cleared (swept_between w s.line.0 a m v.bus b (all_but s.hart) (bus.held_by s.hart d s.own) first locals b_is a_is m_is are) in
     rw (b_is, h_is, slots_is)
     (let base : DoesChoice w c (Install n) (kind.Install n (hart_id (hart_at w c s.hart)) s.line) v (after v n s d locals) [] =
-        record { is_of = refl; does = record { done = no_instruction w; happens = λ p shows. install_shown w c n v s d x locals p low one map sized f here swept_now shows } } in base)
+    record { is_of = refl; does = record { done = no_instruction w; happens = λ p shows. install_shown w c n v s d x locals p low one map sized f here swept_now shows } } in base)
 
 pub sized_installed : (w : Config) (c n a m : ℕ) (v : PartsView) (s : Request) (d : Line) (x y : Local) (b : BusView) (slots : SlotsView) (first locals : List Local) (clear : Bool) → n < slot_count v.slots → AreSized w c v → InstallFits w v n s d
     → b ≡ after_install v.bus s.hart s.line.0 d s.own → slots ≡ with_slot v.slots n None → x ≡ slice_index_or v.locals s.hart x → y ≡ swept w s.line.0 clear x → first ≡ slice_set v.locals s.hart y → AreSwept w s.line.0 a m first locals → AreSized w c (with_line v locals b slots v.acks)
@@ -133,5 +133,5 @@ sized_installed w c n a m v s d x y b slots first locals clear low sized f b_is 
     let sizes : SameSizes w v.locals first = subst (SameSizes w v.locals) (sym first_is) (set_sizes w v.locals s.hart y x inside here (ap (λ (z : Local). z.buffer.capacity) y_is ∙ swept_size w s.line.0 clear x)) in
     rw (b_is, slots_is)
     (let base : AreSized w c (after v n s d locals) =
-        sized_line w c v locals (all_but s.hart) s.line.0 (bus.held_by s.hart d s.own) (with_slot v.slots n None) v.acks sized (more_sizes w v.locals first locals sizes (swept_sizes w s.line.0 a m first locals are)) refl (slots_count v.slots n None)
-        (slots_range w v.slots n None low sized.slots_in_range (λ r e. absurd (cc))) refl sized.acks_in_range in base)
+    sized_line w c v locals (all_but s.hart) s.line.0 (bus.held_by s.hart d s.own) (with_slot v.slots n None) v.acks sized (more_sizes w v.locals first locals sizes (swept_sizes w s.line.0 a m first locals are)) refl (slots_count v.slots n None)
+    (slots_range w v.slots n None low sized.slots_in_range (λ r e. absurd (cc))) refl sized.acks_in_range in base)

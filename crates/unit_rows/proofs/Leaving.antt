@@ -24,9 +24,9 @@ unfolding harts_by
 harts_without w c k n low few =
     without-picked (hart_at w c k) (λ h. has_hart n (h - c * w.top.harts)) (c * w.top.harts) w.top.harts
     ∙ picked-same (λ h. has_hart n (h - c * w.top.harts) && not (h == hart_at w c k)) (λ h. has_hart (without_hart n k) (h - c * w.top.harts)) (c * w.top.harts) w.top.harts (λ h below above.
-        and_swap (has_hart n (h - c * w.top.harts)) (h == hart_at w c k)
-        ∙ ap (λ b. not b && has_hart n (h - c * w.top.harts)) (let t : (h == hart_at w c k) ≡ (h - c * w.top.harts == k) = grind (arith, nat_tests) in t)
-        ∙ sym (has_hart-without_hart n k (h - c * w.top.harts) (omega arith) (omega arith)))
+    and_swap (has_hart n (h - c * w.top.harts)) (h == hart_at w c k)
+    ∙ ap (λ b. not b && has_hart n (h - c * w.top.harts)) (let t : (h == hart_at w c k) ≡ (h - c * w.top.harts == k) = grind (arith, nat_tests) in t)
+    ∙ sym (has_hart-without_hart n k (h - c * w.top.harts) (omega arith) (omega arith)))
 
 -- who is left
 no_member : (y : ℕ) → member y [] ≡ false

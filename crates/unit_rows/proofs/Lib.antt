@@ -52,3 +52,4 @@ pub mod HintRows
 pub mod Leaving
 pub mod EvictRow
 pub mod Resting
+pub mod AskRow

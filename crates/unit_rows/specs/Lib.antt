@@ -17,3 +17,4 @@ pub mod SlotFits
 pub mod Giving
 pub mod Hints
 pub mod EvictFits
+pub mod AskFits

@@ -3,6 +3,8 @@
 //! A row knows the parts and the table, and nothing of logs, stamps or lanes.
 #![tactic(auto)]
 
+pub use ask::{again, fits_again};
+pub use bus::{bus_own, bus_read, fits_bus_own, fits_bus_read};
 pub use choice::Choice;
 pub use opening::opening_parts;
 pub use lock_words::{free, grant, is_free};
@@ -25,12 +27,12 @@ mod commit;
 mod forwards;
 mod held;
 mod install;
-mod needs;
-mod sweep;
 mod line_words;
+mod needs;
 mod parts;
 mod replies;
 mod served;
 mod site;
 mod stores;
 
+mod sweep;
