@@ -1,18 +1,17 @@
 -- An acknowledgement that comes: the line's entry counts it, where it can.
-use Rattle.std.proofs.Common.{◌≡◌, ℕ, ◌+◌, ◌<◌, ◌^◌, ◌&&◌, Bool, true, false, nat_lt, Option, None, Some, [], option_map, refl, sym, ap, ap₂, ◌∙◌, subst, arith}
+use Rattle.std.proofs.Common.{◌≡◌, ℕ, ◌+◌, ◌<◌, ◌^◌, ◌&&◌, Bool, true, false, nat_lt, Option, None, Some, [], option_map, refl, sym, ap, ◌∙◌, subst, arith}
 use Rattle.std.specs.Option.{ForSome}
 use Rattle.std.proofs.lemmas.Bool.Decides.{nat_tests}
 use Rattle.dash_base.specs.declared.id.ClusterId.{ClusterId}
 use Rattle.dash_base.specs.declared.id.LineId.{LineId}
 use Rattle.dash_base.specs.Places.{line_count}
-use Rattle.dash_msg.specs.declared.msg.Msg.{Msg}
 use Rattle.dash_msg.specs.declared.msg.Msg.TheVariants.{Ack, TransferAck}
 use Rattle.ack_counter.specs.View.{TableView, Counted, entry_at, got_at}
 use Rattle.ack_counter.specs.Steps.{acked}
 use Rattle.dash_model.specs.Maps.{most_got}
 use Rattle.dash_model.specs.Config.{Config}
 use Rattle.dash_model.specs.Part.{Part}
-use Rattle.dash_model.specs.Ranges.{has_line, got_fits, applies}
+use Rattle.dash_model.specs.Ranges.{has_line, got_fits}
 use Rattle.dash_model.specs.Replies.{counted}
 use Rattle.unit_rows.specs.Shown.{PartsView, counted_by, acks_by, Shows, AreSized}
 use Rattle.unit_rows.specs.Takes.{Takes}

@@ -1,29 +1,25 @@
 -- Requests of other clusters for lines that this one has: an owner gives the line, or the request is refused; and an invalidation clears it.
-use Rattle.std.proofs.Common.{◌≡◌, ◌≢◌, ℕ, ◌<◌, ◌&&◌, Bool, true, false, cond, nat_lt, Option, None, Some, List, [], ◌∷◌, is_some, slice_index_or, refl, sym, ap, ap₂, ◌∙◌, subst, arith}
-use Rattle.std.proofs.lemmas.Bool.Decides.{nat_tests}
+use Rattle.std.proofs.Common.{◌≡◌, ℕ, ◌&&◌, Bool, true, false, Option, None, Some, List, [], ◌∷◌, is_some, refl, sym, ap, ap₂, ◌∙◌, subst}
 use Rattle.dash_base.specs.declared.id.ClusterId.{ClusterId}
 use Rattle.dash_base.specs.declared.id.LineId.{LineId}
 use Rattle.dash_base.specs.declared.line.Line.{Line}
 use Rattle.dash_base.specs.Places.{line_count}
 use Rattle.dash_base.specs.Places as places
-use Rattle.dash_msg.specs.declared.msg.Msg.{Msg}
 use Rattle.dash_msg.specs.declared.msg.Msg.TheVariants.{FwdRead, FwdReadEx, Inval, SharingBack, Transfer, Data, DataEx, Ack, Nak}
-use Rattle.dash_msg.specs.declared.parcel.Sent.{Sent}
 use Rattle.snoop_bus.specs.Holding.{Holding, has_hart, holders_in, owner_in, copy_in, disowned}
-use Rattle.snoop_bus.specs.View.{BusView, holding_at, holders_at, owner_at, copy_of, changed, nobody, everybody, after_clear, after_downgrade, IsOneMap}
+use Rattle.snoop_bus.specs.View.{BusView, holding_at, holders_at, nobody, everybody, after_clear, after_downgrade, IsOneMap}
 use Rattle.snoop_bus.proofs.LawsOffered.{has_hart-zero}
-use Rattle.ack_counter.specs.View.{Counted, TableView, entry_at, is_pending}
-use Rattle.remote_cache.specs.declared.slot.Slot.{Slot as Request}
+use Rattle.ack_counter.specs.View.{Counted, entry_at}
 use Rattle.remote_cache.specs.Rows.{on_inval}
 use Rattle.remote_cache.specs.View.{SlotsView, is_prefetch, IsOnePerLine}
 use Rattle.remote_cache.specs.View as slots
 use Rattle.remote_cache.specs.Steps.{after_inval}
-use Rattle.dash_model.specs.Config.{Config, cluster_id, home_of, first_prefetch}
+use Rattle.dash_model.specs.Config.{Config, cluster_id, home_of}
 use Rattle.dash_model.specs.Net.{to}
-use Rattle.dash_model.specs.Cell.{Copy, NoCopy, Held, Acks, NoAcks, Counting, Expects, Cell, Home}
+use Rattle.dash_model.specs.Cell.{Copy, NoCopy, Held, NoAcks, Cell, Home}
 use Rattle.dash_model.specs.Part.{Part}
 use Rattle.dash_model.specs.LineEffect.{LineEffect}
-use Rattle.dash_model.specs.Ranges.{has_line, has_cluster, applies}
+use Rattle.dash_model.specs.Ranges.{has_line, has_cluster}
 use Rattle.dash_model.specs.Requests.{give_read, give_own, poison}
 use Rattle.unit_rows.specs.declared.parts.Local.{Local}
 use Rattle.unit_rows.specs.Shown.{PartsView, harts_by, owner_by, copy_by, counted_by, acks_by, Shows, AreSized}
@@ -34,10 +30,10 @@ use Rattle.unit_rows.proofs.Lines.{Turns}
 use Rattle.unit_rows.proofs.Swept.{Leaves, harts_swept, harts_stay}
 use Rattle.unit_rows.proofs.BusTurns.{with_line, line_turns, bus_turns}
 use Rattle.unit_rows.proofs.Sized.{sized_line, sized_bus, swept_sizes, same_sizes}
-use Rattle.unit_rows.proofs.LineTakes.{turned, TakesOn, takes_line, takes_no_line}
+use Rattle.unit_rows.proofs.LineTakes.{turned, takes_line, takes_no_line}
 use Rattle.unit_rows.proofs.SlotMet.{IsMet, is_met}
 use Rattle.unit_rows.proofs.SlotRows.{inval_same, poison_is}
-use Rattle.unit_rows.proofs.MetTurns.{with_slots, slot_turns}
+use Rattle.unit_rows.proofs.MetTurns.{slot_turns}
 use Rattle.unit_rows.proofs.AckSteps.{acks_stay}
 
 -- an owner that gives a copy, or the line; or a refusal
@@ -171,8 +167,8 @@ module _ (w : Config) (c : ℕ) (v : PartsView) (l : LineId) (r : ClusterId) (z 
   read_turns p d s =
       let o = disowned (holding_at v.bus l.0) in
       bus_turns w c v p l.0 (read_effect l (home_of w l.0) r.0 (copy_by w c (disowned (holding_at v.bus l.0))) d (p.cells l.0) (p.homes l.0)) nobody o v.locals s
-        (harts_stay w c v p l.0 nobody o (copy_by w c o) z.locals z.bus_harts map s (disowned_leaves w v.bus l.0) refl (λ k low before. ap (λ n. has_hart n k) (disowned_holders (holding_at v.bus l.0)) ∙ before))
-        refl refl refl refl
+      (harts_stay w c v p l.0 nobody o (copy_by w c o) z.locals z.bus_harts map s (disowned_leaves w v.bus l.0) refl (λ k low before. ap (λ n. has_hart n k) (disowned_holders (holding_at v.bus l.0)) ∙ before))
+      refl refl refl refl
 
   pub takes_read_given : (from : ClusterId) (d : Line) → given v.bus v.acks l.0 ≡ Some d → Takes w c from (FwdRead l r) v (with_line v v.locals (after_downgrade v.bus l.0) v.slots v.acks) (record { to = r; msg = Data l d } ∷ record { to = home_id w l; msg = SharingBack l d r } ∷ [])
   takes_read_given from d is = takes_line w c from (FwdRead l r) l v _ _ refl (λ p s.
@@ -190,8 +186,8 @@ module _ (w : Config) (c : ℕ) (v : PartsView) (l : LineId) (r : ClusterId) (z 
   own_turns : (p : Part) (d : Line) (locals : List Local) → AreSwept w l.0 (holders_at v.bus l.0) 0 v.locals locals → Shows w c v p → Turns w c v (with_line v locals (after_clear v.bus l.0) v.slots v.acks) p l.0 (own_effect l (home_of w l.0) r.0 d (p.cells l.0) (p.homes l.0))
   own_turns p d locals are s =
       bus_turns w c v p l.0 (own_effect l (home_of w l.0) r.0 d (p.cells l.0) (p.homes l.0)) everybody None locals s
-        (harts_swept w c v p l.0 everybody None NoCopy locals z.locals z.bus_harts map s (cleared_leaves w v.bus l.0) refl are)
-        refl refl refl refl
+      (harts_swept w c v p l.0 everybody None NoCopy locals z.locals z.bus_harts map s (cleared_leaves w v.bus l.0) refl are)
+      refl refl refl refl
 
   pub takes_own_given : (from : ClusterId) (d : Line) (locals : List Local) → AreSwept w l.0 (holders_at v.bus l.0) 0 v.locals locals → given v.bus v.acks l.0 ≡ Some d → Takes w c from (FwdReadEx l r) v (with_line v locals (after_clear v.bus l.0) v.slots v.acks) (record { to = r; msg = DataEx l d 1 } ∷ record { to = home_id w l; msg = Transfer l r } ∷ [])
   takes_own_given from d locals are is = takes_line w c from (FwdReadEx l r) l v _ _ refl (λ p s.

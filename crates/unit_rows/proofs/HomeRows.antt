@@ -1,5 +1,5 @@
 -- A message that a home serves: its row is what the home makes of its line.
-use Rattle.std.proofs.Common.{◌≡◌, ◌≢◌, ℕ, zero, suc, ◌+◌, ◌<◌, ◌==◌, ◌&&◌, ◌||◌, Bool, true, false, cond, not, Option, Some, None, List, [], ◌∷◌, ◌++◌, length, map, refl, sym, ap, ap₂, ◌∙◌, arith}
+use Rattle.std.proofs.Common.{◌≡◌, ℕ, zero, suc, ◌+◌, ◌<◌, ◌==◌, ◌&&◌, ◌||◌, Bool, true, false, cond, not, Some, List, [], ◌∷◌, ◌++◌, length, map, refl, sym, ap, ap₂, ◌∙◌, arith}
 use Rattle.std.specs.Prelude.{filter}
 use Rattle.std.specs.List.{range_with_len}
 use Rattle.std.proofs.lemmas.Bool.Decides.{nat_tests}
@@ -21,13 +21,13 @@ use Rattle.directory.proofs.LawsOffered.{sharers_are_sets}
 use Rattle.dash_model.specs.Maps.{with_member, without}
 use Rattle.dash_model.specs.Config.{Config}
 use Rattle.dash_model.specs.Net.{to}
-use Rattle.dash_model.specs.Cell.{Cell, Home, SharedBy, Dirty}
+use Rattle.dash_model.specs.Cell.{Cell, SharedBy, Dirty}
 use Rattle.dash_model.specs.LineEffect.{LineEffect, still}
 use Rattle.dash_model.specs.LineRows.{take_row}
 use Rattle.dash_model.specs.Requests.{read_row, own_row, invals_to, is_dirty_of, write_back_row, sharing_back_row, transfer_row}
 use Rattle.unit_rows.specs.Lists.{picked}
 use Rattle.unit_rows.specs.Shown.{entry_by, home_by}
-use Rattle.unit_rows.proofs.Same.{test_same, test_differ}
+use Rattle.unit_rows.proofs.Same.{test_same}
 use Rattle.unit_rows.proofs.Lists.{picked-same, picked-alone, with_member-picked, without-picked}
 
 -- sharers as bits, and as a list

@@ -1,5 +1,5 @@
 -- Messages of a line that are taken: where a case applies the line turns as its row says, and else nothing changes.
-use Rattle.std.proofs.Common.{◌≡◌, ℕ, true, false, Bool, Option, Some, None, List, [], refl, sym, ap, ◌∙◌, subst}
+use Rattle.std.proofs.Common.{◌≡◌, ℕ, true, false, Option, Some, None, List, [], refl, sym, ap, ◌∙◌, subst}
 use Rattle.std.specs.Prelude.{unwrap_or}
 use Rattle.dash_base.specs.declared.id.ClusterId.{ClusterId}
 use Rattle.dash_base.specs.declared.id.LineId.{LineId}
@@ -18,7 +18,7 @@ use Rattle.dash_model.specs.Row.{line_msg_row, msg_row, msg_row_if, row}
 use Rattle.dash_model.specs.Ranges.{applies}
 use Rattle.dash_model.specs.Guard.{TakeFits, Guard}
 use Rattle.unit_rows.specs.Shown.{PartsView, Shows}
-use Rattle.unit_rows.specs.Rows.{Happens, Does}
+use Rattle.unit_rows.specs.Rows.{Happens}
 use Rattle.unit_rows.specs.Takes.{Takes}
 use Rattle.unit_rows.proofs.Lines.{Turns, shows_line}
 

@@ -1,5 +1,5 @@
 -- A lock word that is granted, or freed: what the event needs, and what it makes of the word.
-use Rattle.std.proofs.Common.{◌≡◌, ◌≢◌, ℕ, zero, suc, ◌+◌, ◌-◌, ◌*◌, ◌/◌, ◌%◌, ◌<◌, ◌≤◌, ◌==◌, ◌&&◌, Bool, true, false, cond, not, nat_lt, nat_le, Option, Some, None, List, [], ◌∷◌, length, drop, map, slice_get, refl, sym, ap, ap₂, ◌∙◌, subst, arith}
+use Rattle.std.proofs.Common.{◌≡◌, ℕ, suc, ◌+◌, ◌-◌, ◌*◌, ◌/◌, ◌%◌, ◌<◌, ◌==◌, ◌&&◌, Bool, true, false, not, nat_lt, nat_le, Some, List, [], ◌∷◌, length, drop, map, slice_get, refl, sym, ap, ap₂, ◌∙◌, subst, arith}
 use Rattle.std.specs.Prelude.{unwrap_or}
 use Rattle.std.proofs.lemmas.Bool.Decides.{nat_tests}
 use Rattle.dash_base.specs.declared.id.ClusterId.{ClusterId}
@@ -10,7 +10,6 @@ use Rattle.dash_base.specs.declared.need.Need.{Need}
 use Rattle.dash_base.specs.declared.need.Need.TheVariants as needed
 use Rattle.dash_msg.specs.declared.classes.Class.TheVariants.{Request}
 use Rattle.dash_msg.specs.declared.msg.Msg.TheVariants.{LockGrant, UnlockAck, Unlock}
-use Rattle.dash_msg.specs.declared.parcel.Sent.{Sent}
 use Rattle.dash_event.specs.Offered.{offered}
 use Rattle.dash_event.specs.Records.{unseen}
 use Rattle.dash_event.specs.declared.access.Access.{Access}
@@ -18,7 +17,7 @@ use Rattle.dash_event.specs.declared.access.Seen.TheVariants as seen
 use Rattle.dash_event.specs.declared.event.Kind.{Kind}
 use Rattle.dash_event.specs.declared.event.Kind.TheVariants as kind
 use Rattle.queue_lock.specs.declared.waiter.Waiter.{Waiter as Asker}
-use Rattle.queue_lock.specs.View.{LocksView, is_own, is_ready, is_empty, lock_at, with_lock, Lock as LockView}
+use Rattle.queue_lock.specs.View.{LocksView, is_own, is_ready, is_empty, lock_at, Lock as LockView}
 use Rattle.queue_lock.specs.Steps.{granted, freed, after_grant, after_free}
 use Rattle.dash_model.specs.Maps.{upd, raised, most}
 use Rattle.dash_model.specs.Config.{Config, hart_id, cluster_of, is_lock, lock_home}
@@ -35,7 +34,7 @@ use Rattle.unit_rows.specs.declared.choice.Choice.TheVariants.{Grant, Take}
 use Rattle.unit_rows.specs.Choices.{IsOf}
 use Rattle.unit_rows.specs.Shown.{PartsView, waiter_by, lock_by, Shows, AreSized}
 use Rattle.unit_rows.specs.LockWords.{address, IsAskOf, IsUnlockOf, Freed}
-use Rattle.unit_rows.specs.Rows.{Happens, DoesChoice, Enabled, Cannot}
+use Rattle.unit_rows.specs.Rows.{Happens, DoesChoice, Cannot}
 use Rattle.unit_rows.proofs.LineTakes.{idle}
 use Rattle.unit_rows.proofs.LockWords.{with_locks, shows_lock, own_of, own_is}
 
@@ -101,8 +100,8 @@ pub own_word : (w : Config) (c : ℕ) (v : PartsView) (i : ℕ) (word : WordAddr
 own_word w c v i word s own at =
     let is : nat_lt i w.top.locks && (lock_home w i == c) ≡ true = sym (own_is w c v i s) ∙ own in
     ap₂ (λ a b. a && b)
-      (ap (is_lock w) at ∙ in_region (w.top.base + w.top.memory) i w.top.locks (aligned w.top.base w.top.memory w.top.base_in_pages w.top.memory_in_pages) (below i w.top.locks (left_true _ _ is)))
-      (ap (λ n. lock_home w n == c) (ap (config.lock_at w) at ∙ number_back (w.top.base + w.top.memory) i) ∙ right_true _ _ is)
+    (ap (is_lock w) at ∙ in_region (w.top.base + w.top.memory) i w.top.locks (aligned w.top.base w.top.memory w.top.base_in_pages w.top.memory_in_pages) (below i w.top.locks (left_true _ _ is)))
+    (ap (λ n. lock_home w n == c) (ap (config.lock_at w) at ∙ number_back (w.top.base + w.top.memory) i) ∙ right_true _ _ is)
 
 -- the first waiter
 first_of : (x : Asker) (q : List Asker) → slice_get q 0 ≡ Some x → q ≡ x ∷ drop 1 q
@@ -225,8 +224,8 @@ pub granted_with : (w : Config) (c : ℕ) (v : PartsView) (i : ℕ) (x : Asker) 
 granted_with w c v i x word count a z t sized own ready first at count_is asks z_is t_is =
     let access : IsAccess x.hart.0 x.number (needed.Ask a.word x.value) 0 true (seen.Lock (lock_at v.locks i).count) a = subst (λ y. IsAccess x.hart.0 x.number (needed.Ask y x.value) 0 true (seen.Lock (lock_at v.locks i).count) a) (sym asks.word_is) (subst (λ n. IsAccess x.hart.0 x.number (needed.Ask word x.value) 0 true (seen.Lock n) a) count_is asks.access) in
     subst (λ y. DoesChoice w c (Grant i) (kind.Grant a) v (with_locks v z) (record { to = y; msg = LockGrant x.hart } ∷ [])) (sym t_is)
-      (subst (λ y. DoesChoice w c (Grant i) (kind.Grant a) v (with_locks v y) (to (cluster_of w x.hart.0) (LockGrant x.hart) ∷ [])) (sym z_is)
-        (grants w c v i x a sized own ready first (ap (λ (y : WordAddr). y.0) asks.word_is ∙ at) access))
+    (subst (λ y. DoesChoice w c (Grant i) (kind.Grant a) v (with_locks v y) (to (cluster_of w x.hart.0) (LockGrant x.hart) ∷ [])) (sym z_is)
+    (grants w c v i x a sized own ready first (ap (λ (y : WordAddr). y.0) asks.word_is ∙ at) access))
 
 pub freed_with : (w : Config) (c : ℕ) (v : PartsView) (from : ClusterId) (h : HartId) (number : ℕ) (word : WordAddr) (i old count : ℕ) (a : Access) (z : LocksView) (t : ClusterId) → AreSized w c v → frees w c h word ≡ true → config.lock_at w word.0 ≡ i → old ≡ (lock_at v.locks i).value → count ≡ (lock_at v.locks i).count → IsUnlockOf h number word old count a → z ≡ after_free v.locks i → t ≡ places.cluster_of w.top h → Freed w c from h number word v (with_locks v z) (kind.Free from a, record { to = t; msg = UnlockAck h old })
 freed_with w c v from h number word i old count a z t sized serves at old_is count_is u z_is t_is =
@@ -236,9 +235,9 @@ freed_with w c v from h number word i old count a z t sized serves at old_is cou
     let access : IsAccess a.hart.0 a.number (needed.Unlock a.word) (lock_at v.locks i).value true (seen.Lock (lock_at v.locks i).count) a = subst (λ n. IsAccess a.hart.0 a.number (needed.Unlock a.word) (lock_at v.locks i).value true (seen.Lock n) a) count_is (subst (λ n. IsAccess a.hart.0 a.number (needed.Unlock a.word) n true (seen.Lock count) a) old_is by_message) in
     record {
       does = subst (λ y. DoesChoice w c (Take from Request) (kind.Free from a) v (with_locks v z) (record { to = y; msg = UnlockAck h old } ∷ [])) (sym t_is)
-        (subst (λ n. DoesChoice w c (Take from Request) (kind.Free from a) v (with_locks v z) (to (cluster_of w h.0) (UnlockAck h n) ∷ [])) (sym old_is)
+          (subst (λ n. DoesChoice w c (Take from Request) (kind.Free from a) v (with_locks v z) (to (cluster_of w h.0) (UnlockAck h n) ∷ [])) (sym old_is)
           (subst (λ y. DoesChoice w c (Take from Request) (kind.Free from a) v (with_locks v y) (to (cluster_of w h.0) (UnlockAck h (lock_at v.locks i).value) ∷ [])) (sym z_is)
-            (frees_choice w c v from i h a sized mine word_is u.hart_is access)));
+          (frees_choice w c v from i h a sized mine word_is u.hart_is access)));
       takes = λ n. ap (λ (x : Access). parcel from.0 c (Unlock x.hart x.number x.word) n ∷ []) (fields h number word a u);
     }
   where

@@ -1,34 +1,32 @@
 -- Replies to a cluster's requests, and acknowledgements: what each makes of the slots and of the table.
-use Rattle.std.proofs.Common.{◌≡◌, ◌≢◌, ℕ, ◌+◌, ◌<◌, ◌&&◌, Bool, true, false, cond, not, nat_lt, Option, None, Some, [], is_some, refl, sym, ap, ap₂, ◌∙◌, subst, arith}
+use Rattle.std.proofs.Common.{◌≡◌, ℕ, ◌<◌, ◌&&◌, Bool, true, false, nat_lt, Some, [], is_some, refl, sym, ap, ap₂, ◌∙◌, subst, arith}
 use Rattle.std.proofs.lemmas.Bool.Decides.{nat_tests}
 use Rattle.dash_base.specs.declared.id.ClusterId.{ClusterId}
 use Rattle.dash_base.specs.declared.id.LineId.{LineId}
 use Rattle.dash_base.specs.declared.line.Line.{Line}
 use Rattle.dash_base.specs.Places.{line_count}
 use Rattle.dash_base.specs.Places as places
-use Rattle.dash_msg.specs.declared.msg.Msg.{Msg}
-use Rattle.dash_msg.specs.declared.msg.Msg.TheVariants.{Data, DataEx, Ack, TransferAck, Nak}
-use Rattle.ack_counter.specs.View.{TableView, Counted, entry_at, got_at}
-use Rattle.ack_counter.specs.Steps.{granted, acked, cancelled}
+use Rattle.dash_msg.specs.declared.msg.Msg.TheVariants.{Data, DataEx, Nak}
+use Rattle.ack_counter.specs.View.{TableView, entry_at}
+use Rattle.ack_counter.specs.Steps.{granted, cancelled}
 use Rattle.remote_cache.specs.declared.slot.Slot.{Slot as Request}
 use Rattle.remote_cache.specs.Rows.{on_data, on_data_ex, on_nak}
 use Rattle.remote_cache.specs.View.{SlotsView, slot_at, slot_of, is_prefetch, IsOnePerLine}
 use Rattle.remote_cache.specs.View as slots
 use Rattle.remote_cache.specs.Steps.{after_reply, reply_met, met_by, number_met, change_in}
-use Rattle.dash_model.specs.Maps.{most_got}
 use Rattle.dash_model.specs.Config.{Config, first_prefetch}
-use Rattle.dash_model.specs.Cell.{Slot, NoSlot, Acks, NoAcks}
+use Rattle.dash_model.specs.Cell.{Acks, NoAcks}
 use Rattle.dash_model.specs.Part.{Part}
-use Rattle.dash_model.specs.Ranges.{has_line, got_fits, applies}
-use Rattle.dash_model.specs.Replies.{arrive, arrive_own, expecting, expecting_for, counted, nak_slot, nak_acks}
-use Rattle.unit_rows.specs.Shown.{PartsView, slot_by, slot_in, slot_on, counted_by, acks_by, Shows, AreSized}
+use Rattle.dash_model.specs.Ranges.{has_line}
+use Rattle.dash_model.specs.Replies.{arrive, arrive_own, expecting, expecting_for, nak_slot, nak_acks}
+use Rattle.unit_rows.specs.Shown.{PartsView, slot_by, slot_in, slot_on, acks_by, Shows, AreSized}
 use Rattle.unit_rows.specs.Takes.{Takes}
 use Rattle.unit_rows.specs.Replies.{owns_request, prefetch_owns_at, prefetch_owns}
-use Rattle.unit_rows.proofs.LineTakes.{its_line, turned, TakesOn, takes_line, takes_no_line}
+use Rattle.unit_rows.proofs.LineTakes.{turned, TakesOn, takes_line, takes_no_line}
 use Rattle.unit_rows.proofs.SlotMet.{IsMet, is_met, OnLine, Nowhere, Somewhere, on_line}
 use Rattle.unit_rows.proofs.SlotRows.{data_same, data_ex_same, nak_same, arrive_is, arrive_own_is, nak_is, granted_met, granted_not, nak_kept, nak_not, nak_gone}
 use Rattle.unit_rows.proofs.MetTurns.{with_slots, slot_turns, sized_slots}
-use Rattle.unit_rows.proofs.AckSteps.{AcksTurn, acks_stay, granted_turn, acked_turn, cancelled_turn}
+use Rattle.unit_rows.proofs.AckSteps.{AcksTurn, acks_stay, granted_turn, cancelled_turn}
 
 -- a line that is none of memory
 past : (w : Config) (l : LineId) (b : Bool) → nat_lt l.0 (line_count w.top) ≡ false → has_line w l && b ≡ false

@@ -1,15 +1,14 @@
 -- Each message that meets a slot: the machine's row of a slot is the code's.
-use Rattle.std.proofs.Common.{◌≡◌, ◌≢◌, ℕ, ◌&&◌, Bool, true, false, cond, not, nat_lt, Option, None, Some, is_some, refl, sym, ap, ◌∙◌}
+use Rattle.std.proofs.Common.{◌≡◌, ℕ, ◌&&◌, Bool, true, false, cond, not, nat_lt, Some, is_some, refl, sym, ◌∙◌}
 use Rattle.dash_base.specs.declared.line.Line.{Line}
 use Rattle.dash_base.specs.declared.id.LineId.{LineId}
 use Rattle.remote_cache.specs.declared.slot.Slot.{Slot as Request}
 use Rattle.remote_cache.specs.declared.slot.Phase.{Phase as Waits}
 use Rattle.remote_cache.specs.declared.slot.Phase.TheVariants as waits
-use Rattle.remote_cache.specs.Rows.{refused, in_phase, on_data, on_data_ex, on_nak, on_inval}
+use Rattle.remote_cache.specs.Rows.{refused, on_data, on_data_ex, on_nak, on_inval}
 use Rattle.remote_cache.specs.Steps.{number_met}
 use Rattle.dash_model.specs.Config.{Config}
-use Rattle.dash_model.specs.Cell.{Slot, NoSlot, Reads, Owns, Refused, Acks, NoAcks}
-use Rattle.dash_model.specs.LineEffect.{refuse, refuse_acks}
+use Rattle.dash_model.specs.Cell.{NoSlot, Reads, Owns, Refused, Acks, NoAcks}
 use Rattle.dash_model.specs.Requests.{poison}
 use Rattle.dash_model.specs.Replies.{arrive, arrive_own, expecting, expecting_for, nak_slot, nak_acks}
 use Rattle.unit_rows.specs.Shown.{hart_at, slot_by}

@@ -5,21 +5,20 @@
 
 pub use choice::Choice;
 pub use lock_words::{free, grant, is_free};
+pub use messages::take;
 pub use parts::{Local, Parts};
 pub use site::Site;
-pub use messages::take;
 
-mod choice;
-mod lock_words;
-mod messages;
 mod burst;
+mod choice;
 mod commit;
 mod forwards;
 mod held;
 mod line_words;
+mod lock_words;
+mod messages;
 mod parts;
 mod replies;
 mod served;
 mod site;
 mod sweep;
-

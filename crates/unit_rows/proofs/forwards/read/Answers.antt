@@ -1,14 +1,10 @@
-use Rattle.std.proofs.Common.{◌≡◌, ◌∙◌, sym, ap, ap₂, subst, refl, [], ◌∷◌, is_some, Some, None, List, true, false}
+use Rattle.std.proofs.Common.{◌≡◌, ◌∙◌, sym, ap, subst, refl, [], ◌∷◌, is_some, List}
 use Rattle.dash_base.specs.declared.id.ClusterId.{ClusterId}
 use Rattle.dash_msg.specs.declared.msg.Msg.TheVariants as message
 use Rattle.dash_msg.specs.declared.parcel.Sent.{Sent}
 use Rattle.dash_model.specs.Config.{cluster_id}
-use Rattle.snoop_bus.specs.View.{BusView, holders_at}
-use Rattle.remote_cache.specs.View.{SlotsView}
+use Rattle.snoop_bus.specs.View.{BusView}
 use Rattle.unit_rows.specs.Shown.{config, shown, AreSized}
-use Rattle.unit_rows.specs.Sweeps.{AreSwept}
-use Rattle.unit_rows.specs.Giving.{given}
-use Rattle.unit_rows.proofs.Swept.{swept_back}
 use Rattle.unit_rows.proofs.BusTurns.{with_line}
 use Rattle.unit_rows.proofs.LineTakes.{taken_as}
 use Rattle.unit_rows.proofs.ForwardRows.{fwd_read_out, takes_read_refused, takes_read_given, sized_downgraded, home_id}
@@ -28,7 +24,7 @@ returns-in_default-clause-took c =
     let w = config c.args.site.now in
     let v = shown c.args.parts.now in
     λ from. taken_as w c.args.site.now.cluster.0 from (message.FwdRead c.args.line c.args.to) v v v (record { to = c.args.to; msg = message.Nak c.args.line } ∷ []) c.one.result.items refl c.one.ensures
-      (takes_read_refused w c.args.site.now.cluster.0 v c.args.line c.args.to c.requires (sym c.is_in_range.ensures ∙ c.if-not-is_in_range.false) from c.given.result c.given.ensures (ap is_some c.in_default.is))
+    (takes_read_refused w c.args.site.now.cluster.0 v c.args.line c.args.to c.requires (sym c.is_in_range.ensures ∙ c.if-not-is_in_range.false) from c.given.result c.given.ensures (ap is_some c.in_default.is))
 
 pub returns-clause-took : goal.returns-clause-took
 returns-clause-took c =
@@ -38,9 +34,9 @@ returns-clause-took c =
     let inside = sym c.is_in_range.ensures ∙ c.if-not-is_in_range.false in
     let home : c.home_among-home.result ≡ home_id w c.args.line = ap cluster_id c.home_among-home.ensures in
     λ from. taken_as w k from (message.FwdRead c.args.line c.args.to) v _ (with_line v v.locals c.downgrade.new.self v.slots v.acks) _ c.two.result.items
-      (ap (λ (b : BusView). with_line v v.locals b v.slots v.acks) c.downgrade.ensures)
-      (c.two.ensures ∙ ap (λ (h : ClusterId). two_sent (record { to = c.args.to; msg = message.Data c.args.line c.in-Some.copy }) (record { to = h; msg = message.SharingBack c.args.line c.in-Some.copy c.args.to })) home)
-      (takes_read_given w k v c.args.line c.args.to c.requires inside c.keeps_one_map.ensures from c.in-Some.copy (sym c.given.ensures ∙ c.in-Some.is))
+    (ap (λ (b : BusView). with_line v v.locals b v.slots v.acks) c.downgrade.ensures)
+    (c.two.ensures ∙ ap (λ (h : ClusterId). two_sent (record { to = c.args.to; msg = message.Data c.args.line c.in-Some.copy }) (record { to = h; msg = message.SharingBack c.args.line c.in-Some.copy c.args.to })) home)
+    (takes_read_given w k v c.args.line c.args.to c.requires inside c.keeps_one_map.ensures from c.in-Some.copy (sym c.given.ensures ∙ c.in-Some.is))
 
 pub returns-clause-sized : goal.returns-clause-sized
 returns-clause-sized c =
