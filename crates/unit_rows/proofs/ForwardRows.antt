@@ -167,8 +167,8 @@ module _ (w : Config) (c : ℕ) (v : PartsView) (l : LineId) (r : ClusterId) (z 
   read_turns p d s =
       let o = disowned (holding_at v.bus l.0) in
       bus_turns w c v p l.0 (read_effect l (home_of w l.0) r.0 (copy_by w c (disowned (holding_at v.bus l.0))) d (p.cells l.0) (p.homes l.0)) nobody o v.locals s
-        (harts_stay w c v p l.0 nobody o (copy_by w c o) z.locals z.bus_harts map s (disowned_leaves w v.bus l.0) refl (λ k low before. ap (λ n. has_hart n k) (disowned_holders (holding_at v.bus l.0)) ∙ before))
-        refl refl refl refl
+      (harts_stay w c v p l.0 nobody o (copy_by w c o) z.locals z.bus_harts map s (disowned_leaves w v.bus l.0) refl (λ k low before. ap (λ n. has_hart n k) (disowned_holders (holding_at v.bus l.0)) ∙ before))
+      refl refl refl refl
 
   pub takes_read_given : (from : ClusterId) (d : Line) → given v.bus v.acks l.0 ≡ Some d → Takes w c from (FwdRead l r) v (with_line v v.locals (after_downgrade v.bus l.0) v.slots v.acks) (record { to = r; msg = Data l d } ∷ record { to = home_id w l; msg = SharingBack l d r } ∷ [])
   takes_read_given from d is = takes_line w c from (FwdRead l r) l v _ _ refl (λ p s.
@@ -186,8 +186,8 @@ module _ (w : Config) (c : ℕ) (v : PartsView) (l : LineId) (r : ClusterId) (z 
   own_turns : (p : Part) (d : Line) (locals : List Local) → AreSwept w l.0 (holders_at v.bus l.0) 0 v.locals locals → Shows w c v p → Turns w c v (with_line v locals (after_clear v.bus l.0) v.slots v.acks) p l.0 (own_effect l (home_of w l.0) r.0 d (p.cells l.0) (p.homes l.0))
   own_turns p d locals are s =
       bus_turns w c v p l.0 (own_effect l (home_of w l.0) r.0 d (p.cells l.0) (p.homes l.0)) everybody None locals s
-        (harts_swept w c v p l.0 everybody None NoCopy locals z.locals z.bus_harts map s (cleared_leaves w v.bus l.0) refl are)
-        refl refl refl refl
+      (harts_swept w c v p l.0 everybody None NoCopy locals z.locals z.bus_harts map s (cleared_leaves w v.bus l.0) refl are)
+      refl refl refl refl
 
   pub takes_own_given : (from : ClusterId) (d : Line) (locals : List Local) → AreSwept w l.0 (holders_at v.bus l.0) 0 v.locals locals → given v.bus v.acks l.0 ≡ Some d → Takes w c from (FwdReadEx l r) v (with_line v locals (after_clear v.bus l.0) v.slots v.acks) (record { to = r; msg = DataEx l d 1 } ∷ record { to = home_id w l; msg = Transfer l r } ∷ [])
   takes_own_given from d locals are is = takes_line w c from (FwdReadEx l r) l v _ _ refl (λ p s.

@@ -126,9 +126,25 @@ clusters_after h from m (Some l) = (refl, refl, refl)
 pub sized_home : (w : Config) (c : ℕ) (v : PartsView) (from : ClusterId) (m : Msg) → AreSized w c v → AreSized w c (with_home v (after_serve v.home from m))
 sized_home w c v from m s =
     let same = clusters_after v.home from m (line_of m) in
-    record { locals = s.locals; buffers = s.buffers; bus_harts = s.bus_harts; l1 = s.l1; l2 = s.l2; slot_harts = s.slot_harts; slot_count = s.slot_count; slots_in_range = s.slots_in_range; acks = s.acks; acks_in_range = s.acks_in_range;
-      home_cluster = same.1 ∙ s.home_cluster; home_clusters = same.0 ∙ s.home_clusters; home_lines = same.2 ∙ s.home_lines;
-      lock_cluster = s.lock_cluster; lock_clusters = s.lock_clusters; lock_words = s.lock_words; lock_harts = s.lock_harts }
+    record {
+      locals = s.locals;
+      buffers = s.buffers;
+      bus_harts = s.bus_harts;
+      l1 = s.l1;
+      l2 = s.l2;
+      slot_harts = s.slot_harts;
+      slot_count = s.slot_count;
+      slots_in_range = s.slots_in_range;
+      acks = s.acks;
+      acks_in_range = s.acks_in_range;
+      home_cluster = same.1 ∙ s.home_cluster;
+      home_clusters = same.0 ∙ s.home_clusters;
+      home_lines = same.2 ∙ s.home_lines;
+      lock_cluster = s.lock_cluster;
+      lock_clusters = s.lock_clusters;
+      lock_words = s.lock_words;
+      lock_harts = s.lock_harts;
+    }
 
 turns_home : (w : Config) (c : ℕ) (v : PartsView) (from : ClusterId) (m : Msg) (l : LineId) (p : Part) → AreSized w c v → Shows w c v p → line_of m ≡ Some l → Turns w c v (with_home v (after_serve v.home from m)) p l.0 (effect_by w (p.cells l.0) (served v.home.clusters from m (kept_at v.home l.0)))
 turns_home w c v from m l p sized s e = record {

@@ -79,8 +79,8 @@ pub takes_foreign : (w : Config) (c : ℕ) (v : PartsView) (from : ClusterId) (m
 takes_foreign w c v from m h answer is none =
     let out = no_own_hart w c h none in
     takes_nothing w c from m v
-      (λ p shows. (answers_as w c from.0 m h answer p is).fits (idle w) (subst (λ b. DoesIf (b && (p.harts h.0).asked) w h.0 answer (idle w) p) (sym out) tt))
-      (λ p shows. (answers_as w c from.0 m h answer p is).range ∙ ap (λ b. b && true) out)
+    (λ p shows. (answers_as w c from.0 m h answer p is).fits (idle w) (subst (λ b. DoesIf (b && (p.harts h.0).asked) w h.0 answer (idle w) p) (sym out) tt))
+    (λ p shows. (answers_as w c from.0 m h answer p is).range ∙ ap (λ b. b && true) out)
 
 -- a hart whose lock instruction was not sent
 last_false : (a b : Bool) → b ≡ false → a && b ≡ false
@@ -94,9 +94,9 @@ pub takes_unasked : (w : Config) (c : ℕ) (v : PartsView) (from : ClusterId) (m
 takes_unasked w c v from m h answer k x is some unasked =
     let own = own_hart_of w c h k some in
     takes_still w c from m v
-      (λ p shows. (answers_as w c from.0 m h answer p is).fits (idle w) (subst (λ b. DoesIf b w h.0 answer (idle w) p) (sym (last_false (own_hart w c h) _ (shown_asked w c v p h k x own shows ∙ unasked))) tt))
-      (λ p shows. let a = answers_as w c from.0 m h answer p is in
-        ap (λ b. msg_row_if b w c from.0 m (idle w) p) (a.range ∙ ap (λ b. b && true) own.own) ∙ a.row_is (idle w) ∙ ap (λ b. quiet (answered h.0 b (idle w) p)) (shown_asked w c v p h k x own shows ∙ unasked))
+    (λ p shows. (answers_as w c from.0 m h answer p is).fits (idle w) (subst (λ b. DoesIf b w h.0 answer (idle w) p) (sym (last_false (own_hart w c h) _ (shown_asked w c v p h k x own shows ∙ unasked))) tt))
+    (λ p shows. let a = answers_as w c from.0 m h answer p is in
+    ap (λ b. msg_row_if b w c from.0 m (idle w) p) (a.range ∙ ap (λ b. b && true) own.own) ∙ a.row_is (idle w) ∙ ap (λ b. quiet (answered h.0 b (idle w) p)) (shown_asked w c v p h k x own shows ∙ unasked))
 
 -- a hart that waits for the answer does its instruction
 abbrev pub done_by : Local → HartState → Local
@@ -119,15 +119,15 @@ module _ (w : Config) (c : ℕ) (v : PartsView) (from : ClusterId) (m : Msg) (h 
   changed p shows =
       let s = here p shows in
       subst (λ y. Shows w c (with_local v k (done_by (slice_index_or v.locals k x) core)) (change y (record (p.harts h.0) { core = core; asked = false }) p)) own.number
-        (shows_change w c v p k (done_by (slice_index_or v.locals k x) core) (record (p.harts h.0) { core = core; asked = false }) own.low sized.locals shows
-          (record { core = refl; reserved = s.reserved; buffer = s.buffer; asked = refl; l1 = s.l1 }))
+      (shows_change w c v p k (done_by (slice_index_or v.locals k x) core) (record (p.harts h.0) { core = core; asked = false }) own.low sized.locals shows
+      (record { core = refl; reserved = s.reserved; buffer = s.buffer; asked = refl; l1 = s.l1 }))
 
   happens : (p : Part) → Shows w c v p → Happens w c (kind.Take from m) effect (with_local v k (done_by (slice_index_or v.locals k x) core)) [] p
   unfolding Guard row effect
   happens p shows =
       let a = answers_as w c from.0 m h answer p is in
       let row_is : msg_row_if (applies w c m p) w c from.0 m effect p ≡ quiet (change h.0 (record (p.harts h.0) { core = core; asked = false }) p) =
-        ap (λ b. msg_row_if b w c from.0 m effect p) (a.range ∙ ap (λ b. b && true) own.own) ∙ a.row_is effect ∙ ap (λ b. quiet (answered h.0 b effect p)) ((here p shows).asked ∙ asked) in
+      ap (λ b. msg_row_if b w c from.0 m effect p) (a.range ∙ ap (λ b. b && true) own.own) ∙ a.row_is effect ∙ ap (λ b. quiet (answered h.0 b effect p)) ((here p shows).asked ∙ asked) in
       record {
         guard = a.fits effect (does p shows);
         shows = subst (λ (y : PartEffect). Shows w c (with_local v k (done_by (slice_index_or v.locals k x) core)) y.part) (sym row_is) (changed p shows);
@@ -145,9 +145,21 @@ sized_change w c v k y low z cap = record {
     | inl e ↦ subst (λ i. (slice_index_or (slice_set v.locals k y) i d).buffer.capacity ≡ w.top.buffer) (sym e) (ap (λ (x : Local). x.buffer.capacity) (get_or-set_same v.locals k y d (subst (λ n. k < n) (sym z.locals) low)) ∙ cap)
     | inr o ↦ ap (λ (x : Local). x.buffer.capacity) (get_or-set_other v.locals k j y d o) ∙ z.buffers j d below
   ];
-  bus_harts = z.bus_harts; l1 = z.l1; l2 = z.l2; slot_harts = z.slot_harts; slot_count = z.slot_count; slots_in_range = z.slots_in_range; acks = z.acks; acks_in_range = z.acks_in_range;
-  home_cluster = z.home_cluster; home_clusters = z.home_clusters; home_lines = z.home_lines;
-  lock_cluster = z.lock_cluster; lock_clusters = z.lock_clusters; lock_words = z.lock_words; lock_harts = z.lock_harts;
+  bus_harts = z.bus_harts;
+  l1 = z.l1;
+  l2 = z.l2;
+  slot_harts = z.slot_harts;
+  slot_count = z.slot_count;
+  slots_in_range = z.slots_in_range;
+  acks = z.acks;
+  acks_in_range = z.acks_in_range;
+  home_cluster = z.home_cluster;
+  home_clusters = z.home_clusters;
+  home_lines = z.home_lines;
+  lock_cluster = z.lock_cluster;
+  lock_clusters = z.lock_clusters;
+  lock_words = z.lock_words;
+  lock_harts = z.lock_harts;
 }
 
 pub sized_answer : (w : Config) (c : ℕ) (v : PartsView) (k : ℕ) (x : Local) (core : HartState) → k < w.top.harts → AreSized w c v → x ≡ slice_index_or v.locals k x → AreSized w c (with_local v k (done_by x core))

@@ -100,8 +100,8 @@ pub own_word : (w : Config) (c : ℕ) (v : PartsView) (i : ℕ) (word : WordAddr
 own_word w c v i word s own at =
     let is : nat_lt i w.top.locks && (lock_home w i == c) ≡ true = sym (own_is w c v i s) ∙ own in
     ap₂ (λ a b. a && b)
-      (ap (is_lock w) at ∙ in_region (w.top.base + w.top.memory) i w.top.locks (aligned w.top.base w.top.memory w.top.base_in_pages w.top.memory_in_pages) (below i w.top.locks (left_true _ _ is)))
-      (ap (λ n. lock_home w n == c) (ap (config.lock_at w) at ∙ number_back (w.top.base + w.top.memory) i) ∙ right_true _ _ is)
+    (ap (is_lock w) at ∙ in_region (w.top.base + w.top.memory) i w.top.locks (aligned w.top.base w.top.memory w.top.base_in_pages w.top.memory_in_pages) (below i w.top.locks (left_true _ _ is)))
+    (ap (λ n. lock_home w n == c) (ap (config.lock_at w) at ∙ number_back (w.top.base + w.top.memory) i) ∙ right_true _ _ is)
 
 -- the first waiter
 first_of : (x : Asker) (q : List Asker) → slice_get q 0 ≡ Some x → q ≡ x ∷ drop 1 q
@@ -224,8 +224,8 @@ pub granted_with : (w : Config) (c : ℕ) (v : PartsView) (i : ℕ) (x : Asker) 
 granted_with w c v i x word count a z t sized own ready first at count_is asks z_is t_is =
     let access : IsAccess x.hart.0 x.number (needed.Ask a.word x.value) 0 true (seen.Lock (lock_at v.locks i).count) a = subst (λ y. IsAccess x.hart.0 x.number (needed.Ask y x.value) 0 true (seen.Lock (lock_at v.locks i).count) a) (sym asks.word_is) (subst (λ n. IsAccess x.hart.0 x.number (needed.Ask word x.value) 0 true (seen.Lock n) a) count_is asks.access) in
     subst (λ y. DoesChoice w c (Grant i) (kind.Grant a) v (with_locks v z) (record { to = y; msg = LockGrant x.hart } ∷ [])) (sym t_is)
-      (subst (λ y. DoesChoice w c (Grant i) (kind.Grant a) v (with_locks v y) (to (cluster_of w x.hart.0) (LockGrant x.hart) ∷ [])) (sym z_is)
-        (grants w c v i x a sized own ready first (ap (λ (y : WordAddr). y.0) asks.word_is ∙ at) access))
+    (subst (λ y. DoesChoice w c (Grant i) (kind.Grant a) v (with_locks v y) (to (cluster_of w x.hart.0) (LockGrant x.hart) ∷ [])) (sym z_is)
+    (grants w c v i x a sized own ready first (ap (λ (y : WordAddr). y.0) asks.word_is ∙ at) access))
 
 pub freed_with : (w : Config) (c : ℕ) (v : PartsView) (from : ClusterId) (h : HartId) (number : ℕ) (word : WordAddr) (i old count : ℕ) (a : Access) (z : LocksView) (t : ClusterId) → AreSized w c v → frees w c h word ≡ true → config.lock_at w word.0 ≡ i → old ≡ (lock_at v.locks i).value → count ≡ (lock_at v.locks i).count → IsUnlockOf h number word old count a → z ≡ after_free v.locks i → t ≡ places.cluster_of w.top h → Freed w c from h number word v (with_locks v z) (kind.Free from a, record { to = t; msg = UnlockAck h old })
 freed_with w c v from h number word i old count a z t sized serves at old_is count_is u z_is t_is =
@@ -235,9 +235,9 @@ freed_with w c v from h number word i old count a z t sized serves at old_is cou
     let access : IsAccess a.hart.0 a.number (needed.Unlock a.word) (lock_at v.locks i).value true (seen.Lock (lock_at v.locks i).count) a = subst (λ n. IsAccess a.hart.0 a.number (needed.Unlock a.word) (lock_at v.locks i).value true (seen.Lock n) a) count_is (subst (λ n. IsAccess a.hart.0 a.number (needed.Unlock a.word) n true (seen.Lock count) a) old_is by_message) in
     record {
       does = subst (λ y. DoesChoice w c (Take from Request) (kind.Free from a) v (with_locks v z) (record { to = y; msg = UnlockAck h old } ∷ [])) (sym t_is)
-        (subst (λ n. DoesChoice w c (Take from Request) (kind.Free from a) v (with_locks v z) (to (cluster_of w h.0) (UnlockAck h n) ∷ [])) (sym old_is)
+          (subst (λ n. DoesChoice w c (Take from Request) (kind.Free from a) v (with_locks v z) (to (cluster_of w h.0) (UnlockAck h n) ∷ [])) (sym old_is)
           (subst (λ y. DoesChoice w c (Take from Request) (kind.Free from a) v (with_locks v y) (to (cluster_of w h.0) (UnlockAck h (lock_at v.locks i).value) ∷ [])) (sym z_is)
-            (frees_choice w c v from i h a sized mine word_is u.hart_is access)));
+          (frees_choice w c v from i h a sized mine word_is u.hart_is access)));
       takes = λ n. ap (λ (x : Access). parcel from.0 c (Unlock x.hart x.number x.word) n ∷ []) (fields h number word a u);
     }
   where

@@ -54,9 +54,25 @@ sizes_stay v i l = (refl, refl, refl, refl)
 pub sized_locks : (w : Config) (c : ℕ) (v : PartsView) (i : ℕ) (l : LockView) → AreSized w c v → AreSized w c (with_locks v (with_lock v.locks i l))
 sized_locks w c v i l s =
     let same = sizes_stay v.locks i l in
-    record { locals = s.locals; buffers = s.buffers; bus_harts = s.bus_harts; l1 = s.l1; l2 = s.l2; slot_harts = s.slot_harts; slot_count = s.slot_count; slots_in_range = s.slots_in_range; acks = s.acks; acks_in_range = s.acks_in_range;
-      home_cluster = s.home_cluster; home_clusters = s.home_clusters; home_lines = s.home_lines;
-      lock_cluster = same.0 ∙ s.lock_cluster; lock_clusters = same.1 ∙ s.lock_clusters; lock_words = same.2 ∙ s.lock_words; lock_harts = same.3 ∙ s.lock_harts }
+    record {
+      locals = s.locals;
+      buffers = s.buffers;
+      bus_harts = s.bus_harts;
+      l1 = s.l1;
+      l2 = s.l2;
+      slot_harts = s.slot_harts;
+      slot_count = s.slot_count;
+      slots_in_range = s.slots_in_range;
+      acks = s.acks;
+      acks_in_range = s.acks_in_range;
+      home_cluster = s.home_cluster;
+      home_clusters = s.home_clusters;
+      home_lines = s.home_lines;
+      lock_cluster = same.0 ∙ s.lock_cluster;
+      lock_clusters = same.1 ∙ s.lock_clusters;
+      lock_words = same.2 ∙ s.lock_words;
+      lock_harts = same.3 ∙ s.lock_harts;
+    }
 
 -- a lock word of this home, by its address and by its number
 pub own_is : (w : Config) (c : ℕ) (v : PartsView) (i : ℕ) → AreSized w c v → is_own v.locks i ≡ nat_lt i w.top.locks && (lock_home w i == c)
@@ -114,8 +130,8 @@ queue_same : (w : Config) (c : ℕ) (v : PartsView) (p : Part) (i : ℕ) → Are
 queue_same w c v p i s shows low =
     let in_range : nat_lt i w.top.locks ≡ true = grind (arith, nat_tests) in
     queue_if (lock_home w i == c) (is_own v.locks i) (p.locks i).queue (lock_at v.locks i).queue
-      (sym (own_is w c v i s ∙ ap (λ b. b && (lock_home w i == c)) in_range))
-      (λ own. ap (λ (x : Lock). length x.queue) (shows.locks i own) ∙ length-map (lock_at v.locks i).queue waiter_by)
+    (sym (own_is w c v i s ∙ ap (λ b. b && (lock_home w i == c)) in_range))
+    (λ own. ap (λ (x : Lock). length x.queue) (shows.locks i own) ∙ length-map (lock_at v.locks i).queue waiter_by)
 
 pub waiting_is : (w : Config) (c : ℕ) (v : PartsView) (p : Part) → AreSized w c v → Shows w c v p → rows.waiting w c p ≡ waiting v.locks
 waiting_is w c v p s shows = totals_same (own_queue w c p) (waiting_at v.locks) w.top.locks (λ i low. queue_same w c v p i s shows low) ∙ ap (total (waiting_at v.locks)) (sym s.lock_words)
@@ -145,8 +161,8 @@ module _ (w : Config) (c : ℕ) (v : PartsView) (from : ClusterId) (x : Asker) (
       let is = found w c word i at in
       let own : is_own v.locks i ≡ true = subst (λ j. is_own v.locks j ≡ true) is.number (own_of w c v word s is.own) in
       subst (λ j. Shows w c (with_locks v (after_ask v.locks i x)) (queued j (waiter_by x) p)) (sym is.number)
-        (subst (λ (y : Lock). Shows w c (with_locks v (after_ask v.locks i x)) (record p { locks = upd p.locks i y })) (sym (asked_by w i x (lock_at v.locks i) (p.locks i) (shows.locks i own)))
-          (shows_lock w c v p i (asked x (lock_at v.locks i)) shows))
+      (subst (λ (y : Lock). Shows w c (with_locks v (after_ask v.locks i x)) (record p { locks = upd p.locks i y })) (sym (asked_by w i x (lock_at v.locks i) (p.locks i) (shows.locks i own)))
+      (shows_lock w c v p i (asked x (lock_at v.locks i)) shows))
 
   happens : (p : Part) → Shows w c v p → Happens w c (kind.Take from (asks x word)) (idle w) (with_locks v (after_ask v.locks i x)) [] p
   unfolding Guard row

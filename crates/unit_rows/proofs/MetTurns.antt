@@ -32,9 +32,21 @@ slot_turns w c v p l d slots acks s copy slot others entry home = record {
 
 pub sized_slots : (w : Config) (c : ℕ) (v : PartsView) (slots : SlotsView) (acks : TableView) → AreSized w c v → SlotsFit w v.slots slots → AcksFit w v.acks acks → AreSized w c (with_slots v slots acks)
 sized_slots w c v slots acks z s a = record {
-  locals = z.locals; buffers = z.buffers; bus_harts = z.bus_harts; l1 = z.l1; l2 = z.l2;
-  slot_harts = s.harts ∙ z.slot_harts; slot_count = s.counts ∙ z.slot_count; slots_in_range = s.in_range;
-  acks = a.capacity ∙ z.acks; acks_in_range = a.in_range;
-  home_cluster = z.home_cluster; home_clusters = z.home_clusters; home_lines = z.home_lines;
-  lock_cluster = z.lock_cluster; lock_clusters = z.lock_clusters; lock_words = z.lock_words; lock_harts = z.lock_harts;
+  locals = z.locals;
+  buffers = z.buffers;
+  bus_harts = z.bus_harts;
+  l1 = z.l1;
+  l2 = z.l2;
+  slot_harts = s.harts ∙ z.slot_harts;
+  slot_count = s.counts ∙ z.slot_count;
+  slots_in_range = s.in_range;
+  acks = a.capacity ∙ z.acks;
+  acks_in_range = a.in_range;
+  home_cluster = z.home_cluster;
+  home_clusters = z.home_clusters;
+  home_lines = z.home_lines;
+  lock_cluster = z.lock_cluster;
+  lock_clusters = z.lock_clusters;
+  lock_words = z.lock_words;
+  lock_harts = z.lock_harts;
 }

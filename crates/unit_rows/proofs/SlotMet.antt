@@ -122,14 +122,14 @@ pub record IsMet (w : Config) (c : ℕ) (v z : SlotsView) (l : ℕ) (f : Slot �
 met_by_case : (w : Config) (c : ℕ) (v : SlotsView) (row : Bool → Request → Change) (l : ℕ) (f : Slot → Slot) → IsOnePerLine v.slots → InRange w v → f NoSlot ≡ NoSlot → ((n : ℕ) (s : Request) → SameRequest s (row (is_prefetch v n) s)) → ((n : ℕ) (s : Request) → f (slot_by w c n (Some s)) ≡ slot_changed w c n s (row (is_prefetch v n) s)) → OnLine v l → IsMet w c v (after_met v row l) l f
 met_by_case w c v row l f one range none keeps agrees (Nowhere e) =
     subst (λ z. IsMet w c v z l f) (sym (not_met v row l e))
-      (record { here = ap (λ o. f (slot_in w c v o)) e ∙ none ∙ sym (ap (slot_in w c v) e); there = λ q apart. refl; fit = slots_fit w v range })
+    (record { here = ap (λ o. f (slot_in w c v o)) e ∙ none ∙ sym (ap (slot_in w c v) e); there = λ q apart. refl; fit = slots_fit w v range })
 met_by_case w c v row l f one range none keeps agrees (Somewhere n s e at) =
     subst (λ z. IsMet w c v z l f) (sym (met_is v row l n s e at))
-      (record {
-        here = ap f (ap (slot_in w c v) e ∙ ap (slot_by w c n) at) ∙ agrees n s ∙ sym (slot_here w c v l n s one e at (row (is_prefetch v n) s) (keeps n s));
-        there = slot_there w c v l n s one e at (row (is_prefetch v n) s) (keeps n s);
-        fit = slots_fit_after w c v l n s one e at (row (is_prefetch v n) s) (keeps n s) range;
-      })
+    (record {
+      here = ap f (ap (slot_in w c v) e ∙ ap (slot_by w c n) at) ∙ agrees n s ∙ sym (slot_here w c v l n s one e at (row (is_prefetch v n) s) (keeps n s));
+      there = slot_there w c v l n s one e at (row (is_prefetch v n) s) (keeps n s);
+      fit = slots_fit_after w c v l n s one e at (row (is_prefetch v n) s) (keeps n s) range;
+    })
 
 pub is_met : (w : Config) (c : ℕ) (v : SlotsView) (row : Bool → Request → Change) (l : ℕ) (f : Slot → Slot) → IsOnePerLine v.slots → InRange w v → f NoSlot ≡ NoSlot → ((n : ℕ) (s : Request) → SameRequest s (row (is_prefetch v n) s)) → ((n : ℕ) (s : Request) → f (slot_by w c n (Some s)) ≡ slot_changed w c n s (row (is_prefetch v n) s)) → IsMet w c v (after_met v row l) l f
 is_met w c v row l f one range none keeps agrees = met_by_case w c v row l f one range none keeps agrees (on_line v l)

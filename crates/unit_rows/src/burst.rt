@@ -1,8 +1,8 @@
 //! What a message makes its taker send at once.
 ghost use Rattle.std.specs.Prelude.{◌≡◌, [], ◌∷◌};
 
-use directory::Burst;
 use dash_msg::Sent;
+use directory::Burst;
 
 /// One message.
 pub fn one(sent: Sent) -> Burst

@@ -8,9 +8,9 @@ pub use bus::{bus_own, bus_read, fits_bus_own, fits_bus_read};
 pub use choice::Choice;
 pub use opening::opening_parts;
 pub use lock_words::{free, grant, is_free};
+pub use messages::take;
 pub use parts::{Local, Parts};
 pub use site::Site;
-pub use messages::take;
 
 mod ask;
 mod bus;

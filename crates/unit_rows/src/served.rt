@@ -7,8 +7,8 @@ ghost use Rattle.unit_rows.specs.Takes.{Takes};
 use crate::parts::Parts;
 use crate::site::Site;
 use dash_base::{ClusterId, LineId};
-use directory::Burst;
 use dash_msg::Msg;
+use directory::Burst;
 
 /// Takes a message of a line from a cluster of the machine: a Read, ReadEx, WriteBack, SharingBack or
 /// Transfer. The answer is what is sent, in order.

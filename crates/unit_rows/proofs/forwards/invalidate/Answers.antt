@@ -27,9 +27,9 @@ returns-clause-took c =
     let back : AreSwept w c.args.line.0 c.holders-before.result 0 v.locals locals = swept_back w c.args.line.0 c.holders-before.result 0 c.args.parts.now.locals c.deref_mut.result.now c.sweep.new.locals c.deref_mut.ensures.value c.deref_mut.ensures.len c.sweep.ensures in
     let are : AreSwept w c.args.line.0 (holders_at v.bus c.args.line.0) 0 v.locals locals = subst (λ n. AreSwept w c.args.line.0 n 0 v.locals locals) c.holders-before.ensures back in
     λ from. taken_as w k from (message.Inval c.args.line c.args.to) v _ (with_line v locals c.clear_all.new.self c.poison.new.self v.acks) _ c.one.result.items
-      (ap₂ (λ (b : BusView) (s : SlotsView). with_line v locals b s v.acks) c.clear_all.ensures c.poison.ensures)
-      c.one.ensures
-      (takes_inval w k v c.args.line c.args.to c.requires inside c.keeps_one_map.ensures from locals c.keeps_one_slot_a_line.ensures are)
+    (ap₂ (λ (b : BusView) (s : SlotsView). with_line v locals b s v.acks) c.clear_all.ensures c.poison.ensures)
+    c.one.ensures
+    (takes_inval w k v c.args.line c.args.to c.requires inside c.keeps_one_map.ensures from locals c.keeps_one_slot_a_line.ensures are)
 
 pub returns-clause-sized : goal.returns-clause-sized
 returns-clause-sized c =

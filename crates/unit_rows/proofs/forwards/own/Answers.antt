@@ -27,7 +27,7 @@ returns-in_default-clause-took c =
     let w = config c.args.site.now in
     let v = shown c.args.parts.now in
     λ from. taken_as w c.args.site.now.cluster.0 from (message.FwdReadEx c.args.line c.args.to) v v v (record { to = c.args.to; msg = message.Nak c.args.line } ∷ []) c.one.result.items refl c.one.ensures
-      (takes_own_refused w c.args.site.now.cluster.0 v c.args.line c.args.to c.requires (sym c.is_in_range.ensures ∙ c.if-not-is_in_range.false) from c.given.result c.given.ensures (ap is_some c.in_default.is))
+    (takes_own_refused w c.args.site.now.cluster.0 v c.args.line c.args.to c.requires (sym c.is_in_range.ensures ∙ c.if-not-is_in_range.false) from c.given.result c.given.ensures (ap is_some c.in_default.is))
 
 pub returns-clause-took : goal.returns-clause-took
 returns-clause-took c =
@@ -40,9 +40,9 @@ returns-clause-took c =
     let are : AreSwept w c.args.line.0 (holders_at v.bus c.args.line.0) 0 v.locals locals = subst (λ n. AreSwept w c.args.line.0 n 0 v.locals locals) c.holders-before.ensures back in
     let home : c.home_among-home.result ≡ home_id w c.args.line = ap cluster_id c.home_among-home.ensures in
     λ from. taken_as w k from (message.FwdReadEx c.args.line c.args.to) v _ (with_line v locals c.clear_all.new.self v.slots v.acks) _ c.two.result.items
-      (ap (λ (b : BusView). with_line v locals b v.slots v.acks) c.clear_all.ensures)
-      (c.two.ensures ∙ ap (λ (h : ClusterId). two_sent (record { to = c.args.to; msg = message.DataEx c.args.line c.in-Some.copy 1 }) (record { to = h; msg = message.Transfer c.args.line c.args.to })) home)
-      (takes_own_given w k v c.args.line c.args.to c.requires inside c.keeps_one_map.ensures from c.in-Some.copy locals are (sym c.given.ensures ∙ c.in-Some.is))
+    (ap (λ (b : BusView). with_line v locals b v.slots v.acks) c.clear_all.ensures)
+    (c.two.ensures ∙ ap (λ (h : ClusterId). two_sent (record { to = c.args.to; msg = message.DataEx c.args.line c.in-Some.copy 1 }) (record { to = h; msg = message.Transfer c.args.line c.args.to })) home)
+    (takes_own_given w k v c.args.line c.args.to c.requires inside c.keeps_one_map.ensures from c.in-Some.copy locals are (sym c.given.ensures ∙ c.in-Some.is))
 
 pub returns-clause-sized : goal.returns-clause-sized
 returns-clause-sized c =

@@ -28,8 +28,8 @@ returns-clause-took c =
     let here = sym c.index_mut-local.ensures.value in
     let asked = ap (λ (y : Local). y.asked) (one_local w k v c.in-Some.number c.index.result.now c.requires.sized own.low c.index.ensures x) ∙ c.if-not-index.false in
     λ from m is. subst (λ y. Takes w k from m v (with_local v c.in-Some.number (done_by y c.finish.new.self)) []) here
-      (takes_answer w k v from m c.args.hart c.args.answer c.in-Some.number x c.finish.new.self c.requires.sized is own asked
-        (subst (λ (y : Local). IsFinished w.image w.top y.core c.args.answer c.finish.new.self) (sym here) c.finish.ensures.finished))
+    (takes_answer w k v from m c.args.hart c.args.answer c.in-Some.number x c.finish.new.self c.requires.sized is own asked
+    (subst (λ (y : Local). IsFinished w.image w.top y.core c.args.answer c.finish.new.self) (sym here) c.finish.ensures.finished))
 
 pub returns-clause-sized : goal.returns-clause-sized
 returns-clause-sized c =

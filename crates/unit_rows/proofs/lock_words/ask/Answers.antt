@@ -30,7 +30,7 @@ returns-clause-took c =
     let w = config c.args.site.now in
     let v = shown c.args.parts.now in
     λ from. subst (λ (x : LocksView). Takes w c.args.site.now.cluster.0 from (LockAsk c.args.waiter.hart c.args.waiter.number c.args.word c.args.waiter.value) v (with_locks v x) []) (sym c.ask.ensures)
-      (takes_ask w c.args.site.now.cluster.0 v from c.args.waiter c.args.word c.in-Some.number c.requires (sym c.has_hart.ensures ∙ c.if-not-has_hart.false) (sym c.own_number.ensures ∙ c.in-Some.is) (sym c.has_room.ensures ∙ c.if-not-has_room.false))
+    (takes_ask w c.args.site.now.cluster.0 v from c.args.waiter c.args.word c.in-Some.number c.requires (sym c.has_hart.ensures ∙ c.if-not-has_hart.false) (sym c.own_number.ensures ∙ c.in-Some.is) (sym c.has_room.ensures ∙ c.if-not-has_room.false))
 
 pub returns-clause-sized : goal.returns-clause-sized
 returns-clause-sized c =

@@ -12,7 +12,7 @@ returns-clause-did c =
     let w = config c.args.site.now in
     let at : own_number w c.args.site.now.cluster.0 c.args.word ≡ Some c.unwrap-place.result = sym c.own_number.ensures ∙ c.unwrap-place.ensures in
     freed_with w c.args.site.now.cluster.0 (shown c.args.parts.now) c.args.from c.args.hart c.args.number c.args.word c.unwrap-place.result c.free-old.result c.served-count.result c.unlock_access-access.result c.free-old.new.self c.cluster_of.result
-      c.requires.sized c.requires.serves (found w c.args.site.now.cluster.0 c.args.word c.unwrap-place.result at).number c.free-old.ensures.old c.served-count.ensures c.unlock_access-access.ensures c.free-old.ensures.after c.cluster_of.ensures
+    c.requires.sized c.requires.serves (found w c.args.site.now.cluster.0 c.args.word c.unwrap-place.result at).number c.free-old.ensures.old c.served-count.ensures c.unlock_access-access.ensures c.free-old.ensures.after c.cluster_of.ensures
 
 pub returns-clause-sized : goal.returns-clause-sized
 returns-clause-sized c =

@@ -17,7 +17,7 @@ returns-then-not-ready-clause-did c =
 pub returns-clause-did : goal.returns-clause-did
 returns-clause-did c =
     granted_with (config c.args.site.now) c.args.site.now.cluster.0 (shown c.args.parts.now) c.args.number c.grant-waiter.result c.address-word.result c.served-count.result c.ask_access-access.result c.grant-waiter.new.self c.cluster_of.result
-      c.requires (sym c.is_own.ensures ∙ c.if-not-is_own.false) (sym c.ready.ensures ∙ c.if-not-ready.false) c.grant-waiter.ensures.first c.address-word.ensures c.served-count.ensures c.ask_access-access.ensures c.grant-waiter.ensures.after c.cluster_of.ensures
+    c.requires (sym c.is_own.ensures ∙ c.if-not-is_own.false) (sym c.ready.ensures ∙ c.if-not-ready.false) c.grant-waiter.ensures.first c.address-word.ensures c.served-count.ensures c.ask_access-access.ensures c.grant-waiter.ensures.after c.cluster_of.ensures
 
 pub returns-clause-sized : goal.returns-clause-sized
 returns-clause-sized c =

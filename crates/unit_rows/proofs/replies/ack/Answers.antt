@@ -27,17 +27,17 @@ returns-clause-took c =
     let w = config c.args.site.now in
     let v = shown c.args.parts.now in
     λ from. subst (λ (x : TableView). Takes w c.args.site.now.cluster.0 from (Ack c.args.line) v (with_slots v v.slots x) []) (sym c.ack.ensures)
-      (takes_ack w c.args.site.now.cluster.0 v c.args.line c.requires (sym c.has_line.ensures ∙ c.if-not-has_line.false) from (sym c.counts_more.ensures ∙ c.if-not-counts_more.false))
+    (takes_ack w c.args.site.now.cluster.0 v c.args.line c.requires (sym c.has_line.ensures ∙ c.if-not-has_line.false) from (sym c.counts_more.ensures ∙ c.if-not-counts_more.false))
 
 pub returns-clause-transferred : goal.returns-clause-transferred
 returns-clause-transferred c =
     let w = config c.args.site.now in
     let v = shown c.args.parts.now in
     λ from. subst (λ (x : TableView). Takes w c.args.site.now.cluster.0 from (TransferAck c.args.line) v (with_slots v v.slots x) []) (sym c.ack.ensures)
-      (takes_transfer_ack w c.args.site.now.cluster.0 v c.args.line c.requires (sym c.has_line.ensures ∙ c.if-not-has_line.false) from (sym c.counts_more.ensures ∙ c.if-not-counts_more.false))
+    (takes_transfer_ack w c.args.site.now.cluster.0 v c.args.line c.requires (sym c.has_line.ensures ∙ c.if-not-has_line.false) from (sym c.counts_more.ensures ∙ c.if-not-counts_more.false))
 
 pub returns-clause-sized : goal.returns-clause-sized
 returns-clause-sized c =
     let w = config c.args.site.now in
     subst (λ (x : TableView). AreSized w c.args.site.now.cluster.0 (with_slots (shown c.args.parts.now) (shown c.args.parts.now).slots x)) (sym c.ack.ensures)
-      (sized_ack w c.args.site.now.cluster.0 (shown c.args.parts.now) c.args.line c.requires (sym c.has_line.ensures ∙ c.if-not-has_line.false))
+    (sized_ack w c.args.site.now.cluster.0 (shown c.args.parts.now) c.args.line c.requires (sym c.has_line.ensures ∙ c.if-not-has_line.false))

@@ -16,11 +16,11 @@ returns-clause-took c =
     let w = config c.args.site.now in
     let v = shown c.args.parts.now in
     λ from. subst (λ (x : SlotsView). Takes w c.args.site.now.cluster.0 from (Data c.args.line c.args.copy) v (with_slots v x v.acks) []) (sym c.take_reply-met.ensures.after)
-      (takes_data w c.args.site.now.cluster.0 v c.args.line c.requires c.keeps_one_slot_a_line.ensures (sym c.has_line.ensures ∙ c.if-not-has_line.false) from c.args.copy)
+    (takes_data w c.args.site.now.cluster.0 v c.args.line c.requires c.keeps_one_slot_a_line.ensures (sym c.has_line.ensures ∙ c.if-not-has_line.false) from c.args.copy)
 
 pub returns-clause-sized : goal.returns-clause-sized
 returns-clause-sized c =
     let w = config c.args.site.now in
     let v = shown c.args.parts.now in
     subst (λ (x : SlotsView). AreSized w c.args.site.now.cluster.0 (with_slots v x v.acks)) (sym c.take_reply-met.ensures.after)
-      (sized_data w c.args.site.now.cluster.0 v c.args.line c.requires c.keeps_one_slot_a_line.ensures (sym c.has_line.ensures ∙ c.if-not-has_line.false) c.args.copy)
+    (sized_data w c.args.site.now.cluster.0 v c.args.line c.requires c.keeps_one_slot_a_line.ensures (sym c.has_line.ensures ∙ c.if-not-has_line.false) c.args.copy)

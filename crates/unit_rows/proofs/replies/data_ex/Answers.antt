@@ -23,7 +23,7 @@ returns-then-is_none-clause-took c =
     let inside = sym c.has_line.ensures ∙ c.if-not-has_line.false in
     let one = c.keeps_one_slot_a_line.ensures in
     λ from. subst (λ (x : SlotsView). Takes w k from (DataEx c.args.line c.args.copy c.args.count) v (with_slots v x v.acks) []) (sym c.take_reply-met.ensures.after)
-      (takes_data_ex w k v c.args.line c.requires one inside from c.args.copy c.args.count v.acks (leaves_acks w k v c.args.line c.requires one inside c.args.copy c.args.count met))
+    (takes_data_ex w k v c.args.line c.requires one inside from c.args.copy c.args.count v.acks (leaves_acks w k v c.args.line c.requires one inside c.args.copy c.args.count met))
 
 pub returns-then-is_none-clause-sized : goal.returns-then-is_none-clause-sized
 returns-then-is_none-clause-sized c =
@@ -34,7 +34,7 @@ returns-then-is_none-clause-sized c =
     let inside = sym c.has_line.ensures ∙ c.if-not-has_line.false in
     let one = c.keeps_one_slot_a_line.ensures in
     subst (λ (x : SlotsView). AreSized w k (with_slots v x v.acks)) (sym c.take_reply-met.ensures.after)
-      (sized_data_ex w k v c.args.line c.requires one inside c.args.copy c.args.count v.acks (leaves_acks w k v c.args.line c.requires one inside c.args.copy c.args.count met))
+    (sized_data_ex w k v c.args.line c.requires one inside c.args.copy c.args.count v.acks (leaves_acks w k v c.args.line c.requires one inside c.args.copy c.args.count met))
 
 pub returns-clause-took : goal.returns-clause-took
 returns-clause-took c =
@@ -45,8 +45,8 @@ returns-clause-took c =
     let inside = sym c.has_line.ensures ∙ c.if-not-has_line.false in
     let one = c.keeps_one_slot_a_line.ensures in
     λ from. subst (λ (x : SlotsView). Takes w k from (DataEx c.args.line c.args.copy c.args.count) v (with_slots v x c.grant.new.self) []) (sym c.take_reply-met.ensures.after)
-      (subst (λ (y : TableView). Takes w k from (DataEx c.args.line c.args.copy c.args.count) v (with_slots v (after_reply v.slots (DataEx c.args.line c.args.copy c.args.count)) y) []) (sym c.grant.ensures)
-        (takes_data_ex w k v c.args.line c.requires one inside from c.args.copy c.args.count (granted v.acks c.args.line.0 c.args.count) (grants_acks w k v c.args.line c.requires one inside c.args.copy c.args.count met)))
+    (subst (λ (y : TableView). Takes w k from (DataEx c.args.line c.args.copy c.args.count) v (with_slots v (after_reply v.slots (DataEx c.args.line c.args.copy c.args.count)) y) []) (sym c.grant.ensures)
+    (takes_data_ex w k v c.args.line c.requires one inside from c.args.copy c.args.count (granted v.acks c.args.line.0 c.args.count) (grants_acks w k v c.args.line c.requires one inside c.args.copy c.args.count met)))
 
 pub returns-clause-sized : goal.returns-clause-sized
 returns-clause-sized c =
@@ -57,5 +57,5 @@ returns-clause-sized c =
     let inside = sym c.has_line.ensures ∙ c.if-not-has_line.false in
     let one = c.keeps_one_slot_a_line.ensures in
     subst (λ (x : SlotsView). AreSized w k (with_slots v x c.grant.new.self)) (sym c.take_reply-met.ensures.after)
-      (subst (λ (y : TableView). AreSized w k (with_slots v (after_reply v.slots (DataEx c.args.line c.args.copy c.args.count)) y)) (sym c.grant.ensures)
-        (sized_data_ex w k v c.args.line c.requires one inside c.args.copy c.args.count (granted v.acks c.args.line.0 c.args.count) (grants_acks w k v c.args.line c.requires one inside c.args.copy c.args.count met)))
+    (subst (λ (y : TableView). AreSized w k (with_slots v (after_reply v.slots (DataEx c.args.line c.args.copy c.args.count)) y)) (sym c.grant.ensures)
+    (sized_data_ex w k v c.args.line c.requires one inside c.args.copy c.args.count (granted v.acks c.args.line.0 c.args.count) (grants_acks w k v c.args.line c.requires one inside c.args.copy c.args.count met)))

@@ -24,7 +24,7 @@ returns-then-not-owned-clause-took c =
     let one = c.keeps_one_slot_a_line.ensures in
     let owned : prefetch_owns v.slots c.args.line.0 ≡ false = sym c.prefetch_owns-owned.ensures ∙ c.if-not-owned.true in
     λ from. subst (λ (x : SlotsView). Takes w k from (Nak c.args.line) v (with_slots v x v.acks) []) (sym c.take_reply-met.ensures.after)
-      (takes_nak w k v c.args.line c.requires one inside from v.acks (nak_leaves w k v c.args.line c.requires one inside owned))
+    (takes_nak w k v c.args.line c.requires one inside from v.acks (nak_leaves w k v c.args.line c.requires one inside owned))
 
 pub returns-then-not-owned-clause-sized : goal.returns-then-not-owned-clause-sized
 returns-then-not-owned-clause-sized c =
@@ -35,7 +35,7 @@ returns-then-not-owned-clause-sized c =
     let one = c.keeps_one_slot_a_line.ensures in
     let owned : prefetch_owns v.slots c.args.line.0 ≡ false = sym c.prefetch_owns-owned.ensures ∙ c.if-not-owned.true in
     subst (λ (x : SlotsView). AreSized w k (with_slots v x v.acks)) (sym c.take_reply-met.ensures.after)
-      (sized_nak w k v c.args.line c.requires one inside v.acks (nak_leaves w k v c.args.line c.requires one inside owned))
+    (sized_nak w k v c.args.line c.requires one inside v.acks (nak_leaves w k v c.args.line c.requires one inside owned))
 
 pub returns-then-is_none-clause-took : goal.returns-then-is_none-clause-took
 returns-then-is_none-clause-took c =
@@ -46,7 +46,7 @@ returns-then-is_none-clause-took c =
     let one = c.keeps_one_slot_a_line.ensures in
     let met : is_some (reply_met v.slots (Nak c.args.line)) ≡ false = sym (ap is_some c.take_reply-met.ensures.met) ∙ c.is_none.ensures ∙ ap not c.if-is_none.true in
     λ from. subst (λ (x : SlotsView). Takes w k from (Nak c.args.line) v (with_slots v x v.acks) []) (sym c.take_reply-met.ensures.after)
-      (takes_nak w k v c.args.line c.requires one inside from v.acks (nak_misses w k v c.args.line c.requires one inside met))
+    (takes_nak w k v c.args.line c.requires one inside from v.acks (nak_misses w k v c.args.line c.requires one inside met))
 
 pub returns-then-is_none-clause-sized : goal.returns-then-is_none-clause-sized
 returns-then-is_none-clause-sized c =
@@ -57,7 +57,7 @@ returns-then-is_none-clause-sized c =
     let one = c.keeps_one_slot_a_line.ensures in
     let met : is_some (reply_met v.slots (Nak c.args.line)) ≡ false = sym (ap is_some c.take_reply-met.ensures.met) ∙ c.is_none.ensures ∙ ap not c.if-is_none.true in
     subst (λ (x : SlotsView). AreSized w k (with_slots v x v.acks)) (sym c.take_reply-met.ensures.after)
-      (sized_nak w k v c.args.line c.requires one inside v.acks (nak_misses w k v c.args.line c.requires one inside met))
+    (sized_nak w k v c.args.line c.requires one inside v.acks (nak_misses w k v c.args.line c.requires one inside met))
 
 pub returns-clause-took : goal.returns-clause-took
 returns-clause-took c =
@@ -69,8 +69,8 @@ returns-clause-took c =
     let owned : prefetch_owns v.slots c.args.line.0 ≡ true = sym c.prefetch_owns-owned.ensures ∙ c.if-not-owned.false in
     let met : is_some (reply_met v.slots (Nak c.args.line)) ≡ true = sym (ap is_some c.take_reply-met.ensures.met) ∙ c.is_none.ensures ∙ ap not c.if-is_none.false in
     λ from. subst (λ (x : SlotsView). Takes w k from (Nak c.args.line) v (with_slots v x c.cancel.new.self) []) (sym c.take_reply-met.ensures.after)
-      (subst (λ (y : TableView). Takes w k from (Nak c.args.line) v (with_slots v (after_reply v.slots (Nak c.args.line)) y) []) (sym c.cancel.ensures)
-        (takes_nak w k v c.args.line c.requires one inside from (cancelled v.acks c.args.line.0) (nak_cancels w k v c.args.line c.requires one inside owned met)))
+    (subst (λ (y : TableView). Takes w k from (Nak c.args.line) v (with_slots v (after_reply v.slots (Nak c.args.line)) y) []) (sym c.cancel.ensures)
+    (takes_nak w k v c.args.line c.requires one inside from (cancelled v.acks c.args.line.0) (nak_cancels w k v c.args.line c.requires one inside owned met)))
 
 pub returns-clause-sized : goal.returns-clause-sized
 returns-clause-sized c =
@@ -82,5 +82,5 @@ returns-clause-sized c =
     let owned : prefetch_owns v.slots c.args.line.0 ≡ true = sym c.prefetch_owns-owned.ensures ∙ c.if-not-owned.false in
     let met : is_some (reply_met v.slots (Nak c.args.line)) ≡ true = sym (ap is_some c.take_reply-met.ensures.met) ∙ c.is_none.ensures ∙ ap not c.if-is_none.false in
     subst (λ (x : SlotsView). AreSized w k (with_slots v x c.cancel.new.self)) (sym c.take_reply-met.ensures.after)
-      (subst (λ (y : TableView). AreSized w k (with_slots v (after_reply v.slots (Nak c.args.line)) y)) (sym c.cancel.ensures)
-        (sized_nak w k v c.args.line c.requires one inside (cancelled v.acks c.args.line.0) (nak_cancels w k v c.args.line c.requires one inside owned met)))
+    (subst (λ (y : TableView). AreSized w k (with_slots v (after_reply v.slots (Nak c.args.line)) y)) (sym c.cancel.ensures)
+    (sized_nak w k v c.args.line c.requires one inside (cancelled v.acks c.args.line.0) (nak_cancels w k v c.args.line c.requires one inside owned met)))

@@ -19,7 +19,7 @@ returns-clause-took c =
     let yes : is_served c.args.parts.now.home c.args.from c.args.msg.now ≡ true = sym c.serves.ensures ∙ search (rules, tests) in
     let done = takes_served w c.args.site.now.cluster.0 v c.args.from c.args.msg.now c.args.line c.requires.sized c.requires.from c.requires.line yes in
     subst (λ xs. Takes w c.args.site.now.cluster.0 c.args.from c.args.msg.now v (with_home v c.serve.new.self) xs) (sym c.serve.ensures.sent)
-      (subst (λ (h : HomeView). Takes w c.args.site.now.cluster.0 c.args.from c.args.msg.now v (with_home v h) (sent_by v.home c.args.from c.args.msg.now)) (sym c.serve.ensures.after) done)
+    (subst (λ (h : HomeView). Takes w c.args.site.now.cluster.0 c.args.from c.args.msg.now v (with_home v h) (sent_by v.home c.args.from c.args.msg.now)) (sym c.serve.ensures.after) done)
 
 pub returns-clause-sized : goal.returns-clause-sized
 returns-clause-sized c =
