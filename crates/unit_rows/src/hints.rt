@@ -9,9 +9,9 @@ ghost use Rattle.unit_rows.specs.Hints.{HintFits, OpensJust};
 ghost use Rattle.unit_rows.specs.Rows.{DoesChoice};
 ghost use Rattle.unit_rows.specs.Steps.{HartNeeds};
 
-use crate::ask::asking;
 use crate::instructions::retire;
 use crate::parts::Parts;
+use crate::requests::asking;
 use crate::site::Site;
 use dash_base::{HintKind, WordAddr};
 use dash_event::Kind;

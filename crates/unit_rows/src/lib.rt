@@ -1,38 +1,49 @@
 //! The rows of the machine's table in code: what each event does to the parts of one cluster.
 //!
-//! A row knows the parts and the table, and nothing of logs, stamps or lanes.
+//! A row knows the parts and the table, and nothing of logs, stamps or lanes. Where a row's call answers
+//! that something was done, its event may happen on each part of the machine that the parts show, makes
+//! the part that they show afterwards, and sends what is handed back. Where the answer is none, no event
+//! of that choice may happen. No call but `opening_parts` takes memory.
+//!
+//! Not here yet: atomic operations that write, evictions, and the first asking of a slot.
 #![tactic(auto)]
 
-pub use ask::{again, fits_again};
 pub use bus::{bus_own, bus_read, fits_bus_own, fits_bus_read};
 pub use choice::Choice;
-pub use opening::opening_parts;
+pub use commits::{commit, fits_commit};
+pub use hints::hint;
+pub use installs::{fits_install, install};
+pub use instructions::{alu, fence, put, stop};
+pub use loads::load;
+pub use lock_instructions::{ask, unlock};
 pub use lock_words::{free, grant, is_free};
 pub use messages::take;
+pub use opening::opening_parts;
 pub use parts::{Local, Parts};
+pub use requests::{again, fits_again};
 pub use site::Site;
+pub use stores::{sc_fail, store};
 
-mod ask;
+mod burst;
 mod bus;
 mod choice;
-mod opening;
-mod lock_words;
-mod instructions;
-mod loads;
-mod lock_instructions;
-mod messages;
-mod burst;
-mod hints;
-mod commit;
+mod commits;
 mod forwards;
 mod held;
-mod install;
+mod hints;
+mod installs;
+mod instructions;
 mod line_words;
+mod loads;
+mod lock_instructions;
+mod lock_words;
+mod messages;
 mod needs;
+mod opening;
 mod parts;
 mod replies;
+mod requests;
 mod served;
 mod site;
 mod stores;
-
 mod sweep;

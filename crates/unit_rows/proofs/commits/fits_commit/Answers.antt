@@ -4,7 +4,7 @@ use Rattle.unit_rows.specs.Rows.{Cannot}
 use Rattle.unit_rows.specs.Shown.{config, shown}
 use Rattle.unit_rows.specs.Held.{owns_alone}
 use Rattle.unit_rows.proofs.CommitFits.{no_store, not_in_m}
-use Rattle.unit_rows.proofs.commit.fits_commit.Goals as goal
+use Rattle.unit_rows.proofs.commits.fits_commit.Goals as goal
 
 pub returns-in_err-oldest-clause-idle : goal.returns-in_err-oldest-clause-idle
 returns-in_err-oldest-clause-idle c =

@@ -3,7 +3,7 @@ use Rattle.std.specs.Vec.{with_item}
 use Rattle.unit_rows.specs.Shown.{config, shown}
 use Rattle.unit_rows.proofs.Swept.{swept_back}
 use Rattle.unit_rows.proofs.InstallRow.{installs, sized_installed}
-use Rattle.unit_rows.proofs.install.install.Goals as goal
+use Rattle.unit_rows.proofs.installs.install.Goals as goal
 
 pub returns-clause-did : goal.returns-clause-did
 returns-clause-did c =

@@ -1,7 +1,7 @@
 use Rattle.std.proofs.Common.{ap, slice_set}
 use Rattle.unit_rows.specs.Shown.{config, shown}
 use Rattle.unit_rows.proofs.CommitRow.{commits, sized_committed}
-use Rattle.unit_rows.proofs.commit.commit.Goals as goal
+use Rattle.unit_rows.proofs.commits.commit.Goals as goal
 
 pub returns-clause-did : goal.returns-clause-did
 returns-clause-did c =

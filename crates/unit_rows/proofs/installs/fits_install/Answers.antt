@@ -5,7 +5,7 @@ use Rattle.unit_rows.specs.Rows.{Cannot}
 use Rattle.unit_rows.specs.Shown.{config, shown}
 use Rattle.unit_rows.proofs.BusFits.{unroomy}
 use Rattle.unit_rows.proofs.InstallFits.{not_come, no_install_room, came_phase}
-use Rattle.unit_rows.proofs.install.fits_install.Goals as goal
+use Rattle.unit_rows.proofs.installs.fits_install.Goals as goal
 
 pub room-requires : goal.room-requires
 room-requires c = subst (λ n. c.in_ok-request.request.hart < n) (sym c.requires.sized.bus_harts) (c.requires.sized.slots_in_range c.args.slot c.in_ok-request.request (sym c.get.ensures ∙ c.in_ok-request.was)).0

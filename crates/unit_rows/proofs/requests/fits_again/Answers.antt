@@ -4,7 +4,7 @@ use Rattle.unit_rows.specs.declared.choice.Choice.TheVariants.{Again}
 use Rattle.unit_rows.specs.Rows.{Cannot}
 use Rattle.unit_rows.specs.Shown.{config, shown}
 use Rattle.unit_rows.proofs.AgainRow.{not_refused, refused_phase}
-use Rattle.unit_rows.proofs.ask.fits_again.Goals as goal
+use Rattle.unit_rows.proofs.requests.fits_again.Goals as goal
 
 pub returns-in_err-request-clause-idle : goal.returns-in_err-request-clause-idle
 returns-in_err-request-clause-idle c =

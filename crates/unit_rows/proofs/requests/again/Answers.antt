@@ -2,7 +2,7 @@ use Rattle.std.proofs.Common.{ap, ◌∙◌}
 use Rattle.remote_cache.specs.Steps.{is_refused, is_refused_phase}
 use Rattle.unit_rows.specs.Shown.{config, shown}
 use Rattle.unit_rows.proofs.AgainRow.{asks_again, sized_again}
-use Rattle.unit_rows.proofs.ask.again.Goals as goal
+use Rattle.unit_rows.proofs.requests.again.Goals as goal
 
 pub ask_again-requires-clause-refused : goal.ask_again-requires-clause-refused
 ask_again-requires-clause-refused c = ap is_refused c.in_ok-request.ensures.fits.at ∙ ap is_refused_phase c.in_ok-request.ensures.fits.refused
