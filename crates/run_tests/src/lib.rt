@@ -1,8 +1,11 @@
-//! Tests of logs and reports. A crate with tests is proved again with them, so they stand here, above all that they test.
+//! Tests of logs, of reports and of what a cluster opens with. A crate with tests is proved again with
+//! them, so they stand here, above all that they test.
 #![tactic(auto)]
 
 #[cfg(test)]
 mod logs;
+#[cfg(test)]
+mod openings;
 #[cfg(test)]
 mod reports;
 #[cfg(test)]
