@@ -46,7 +46,7 @@ leaves_by w c k l v p shows (inr e) = inr (ap (is_owner (hart_at w c k)) (shows.
 fits : (w : Config) (c k l : ℕ) (v : PartsView) (p : Part) → k < w.top.harts → EvictFits w c v k l → Shows w c v p → InTable w c (hart_at w c k) l p
 fits w c k l v p low f shows =
     let o = f.other p shows in
-    record { mine = cluster_is w c k low; holder = held_is w c v p k l low shows ∙ f.holder; other = o.other; differs = o.differs; index = o.index; wants = o.wants; may_leave = leaves_by w c k l v p shows f.may_leave }
+    record { mine = cluster_is w c k low; holder = held_is w c v p k l low shows ∙ f.holder; other = o.other; differs = o.differs; index = o.index; wants = o.is_so; may_leave = leaves_by w c k l v p shows f.may_leave }
 
 -- all leave, where the owner gives the line up
 all_leave : (w : Config) (b : BusView) (l : ℕ) → Leaves w b l None everybody

@@ -5,6 +5,7 @@ pub mod Lines
 pub mod Harts
 pub mod Locals
 pub mod Openings
+pub mod OtherLines
 pub mod LineTakes
 pub mod HomeRows
 pub mod Homes
@@ -51,5 +52,6 @@ pub mod HintFits
 pub mod HintRows
 pub mod Leaving
 pub mod EvictRow
+pub mod EvictTold
 pub mod Resting
 pub mod AskRow

@@ -5,12 +5,13 @@
 //! the part that they show afterwards, and sends what is handed back. Where the answer is none, no event
 //! of that choice may happen. No call but `opening_parts` takes memory.
 //!
-//! Not here yet: atomic operations that write, evictions, and the first asking of a slot.
+//! Not here yet: atomic operations that write, and the first asking of a slot.
 #![tactic(auto)]
 
 pub use bus::{bus_own, bus_read, fits_bus_own, fits_bus_read};
 pub use choice::Choice;
 pub use commits::{commit, fits_commit};
+pub use evictions::{evict, fits_evict};
 pub use hints::hint;
 pub use installs::{fits_install, install};
 pub use instructions::{alu, fence, put, stop};
@@ -28,6 +29,7 @@ mod burst;
 mod bus;
 mod choice;
 mod commits;
+mod evictions;
 mod forwards;
 mod held;
 mod hints;
@@ -47,3 +49,4 @@ mod served;
 mod site;
 mod stores;
 mod sweep;
+mod wanted;
