@@ -2,7 +2,6 @@
 ghost use Rattle.std.specs.Prelude.{◌≡◌, ◌<◌, [], ◌∷◌, IfSome, IfNone};
 ghost use Rattle.dash_model.specs.Config.{home_of};
 ghost use Rattle.dash_model.specs.Net.{to};
-ghost use Rattle.remote_cache.specs.Steps.{is_refused_phase};
 ghost use Rattle.remote_cache.specs.View.{count};
 ghost use Rattle.unit_rows.specs.declared.choice.Choice.TheVariants.{Again};
 ghost use Rattle.unit_rows.specs.Rows.{DoesChoice, Cannot};
@@ -14,7 +13,8 @@ use crate::site::Site;
 use dash_base::{LineId, home_among};
 use dash_event::Kind;
 use dash_msg::{Msg, Sent};
-use remote_cache::{Phase, Slot};
+use nak_retry::{refused, reissue};
+use remote_cache::Slot;
 
 /// What a slot has whose request was refused.
 pub fn fits_again(site: &Site, parts: &Parts, slot: u32) -> Option<Slot>
@@ -25,7 +25,7 @@ pub fn fits_again(site: &Site, parts: &Parts, slot: u32) -> Option<Slot>
 {
     parts.slots.keeps_one_slot_a_line();
     let request = parts.slots.get(slot)?;
-    if !is_refused(request.phase) {
+    if !refused(&parts.slots, slot) {
         return None;
     }
     Some(request)
@@ -43,7 +43,7 @@ pub fn again(site: &Site, parts: &mut Parts, slot: u32) -> Option<(Kind, Sent)>
     let request = fits_again(site, parts, slot)?;
     let line = request.line;
     parts.slots.keeps_one_slot_a_line();
-    parts.slots.ask_again(slot);
+    reissue(&mut parts.slots, slot);
     let sent = asking(site, line, request.own);
     Some((Kind::Again { slot, line }, sent))
 }
@@ -61,11 +61,4 @@ pub fn asking(site: &Site, line: LineId, own: bool) -> Sent
         to: home_among(site.topology.clusters, line.0),
         msg,
     }
-}
-
-/// Whether a request was refused.
-fn is_refused(phase: Phase) -> bool
-    ensures { result ≡ is_refused_phase phase }
-{
-    matches!(phase, Phase::Refused)
 }
