@@ -34,9 +34,6 @@ pub record Enabled (w : Config) (c : ℕ) (choice : Choice) (p : Part) : Type 0 
   pub done : HartEffect
   pub guard : Guard w c event done p
 
--- the choice is enabled on every part that the parts show, or on none
-abbrev pub Can : Config → ℕ → PartsView → Choice → Type 0
-Can w c v choice = (p : Part) → Shows w c v p → Enabled w c choice p
-
+-- the choice is enabled on no part that the parts show
 abbrev pub Cannot : Config → ℕ → PartsView → Choice → Type 0
 Cannot w c v choice = (p : Part) → Shows w c v p → Enabled w c choice p → ⊥
