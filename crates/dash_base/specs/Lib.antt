@@ -2,6 +2,8 @@ pub mod Ranges
 pub mod Words
 pub mod Segment
 pub mod Bounds
+pub mod Names
+pub mod Sizes
 pub mod Topology
 pub mod Places
 pub mod Outside

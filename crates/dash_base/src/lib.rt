@@ -17,6 +17,7 @@ pub use need::{HintKind, Need};
 pub use ops::{AluOp, AmoOp, BranchOp, LoadOp, StoreOp};
 pub use places::{first_prefetch, home_among};
 pub use segment::Segment;
+pub use sizes::{KEYS, Sizes, default_stack};
 pub use topology::{Key, KeyName, TopoRefusal, Topology};
 
 mod end;
@@ -31,4 +32,5 @@ mod need;
 mod ops;
 mod places;
 mod segment;
+mod sizes;
 mod topology;

@@ -3,6 +3,7 @@ ghost use Rattle.std.specs.Prelude.{◌≡◌, ℕ, ◌+◌, ◌*◌, ◌/◌, �
 ghost use Rattle.std.specs.Int.{IsPowerOfTwo};
 ghost use Rattle.dash_base.specs.Bounds.{IsBetween};
 
+use crate::sizes::Sizes;
 use std::marker::Model;
 
 /// The twelve keys of a topology, each within its bounds.
@@ -103,43 +104,70 @@ pub enum TopoRefusal {
     OutOfMemory,
 }
 
+impl Key {
+    ghost use Rattle.std.specs.Prelude.{◌≡◌};
+    ghost use Rattle.dash_base.specs.Names.{key_name};
+
+    /// The name of the key, as a topology's text has it.
+    pub fn name(self) -> &'static str
+        ensures { result.now ≡ key_name self }
+    {
+        match self {
+            Key::Clusters => "clusters",
+            Key::Harts => "harts",
+            Key::Budget => "budget",
+            Key::Memory => "memory",
+            Key::Locks => "locks",
+            Key::Base => "base",
+            Key::L2 => "l2",
+            Key::L1 => "l1",
+            Key::Buffer => "buffer",
+            Key::Acks => "acks",
+            Key::Prefetch => "prefetch",
+            Key::Stack => "stack",
+        }
+    }
+}
+
 impl Topology {
     ghost use Rattle.std.specs.Prelude.{◌≡◌, IfOk, IfErr, Some, None, Option};
-    ghost use Rattle.dash_base.specs.Topology.{IsSimple, simple_refusal};
+    ghost use Rattle.dash_base.specs.Sizes.{sizes_refusal};
+    ghost use Rattle.dash_base.specs.Topology.{HasSizes, IsSimple, simple_refusal};
 
-    /// The topology with these keys, and every other one at its default. It refuses a key out of its
-    /// bounds, the first in the order of the parameters, and then too much work.
+    /// The topology with these keys, and every other one at its default. It refuses as
+    /// [`Topology::of`] does.
     pub fn simple(clusters: u32, harts: u32, budget: u32) -> Result<Topology, TopoRefusal>
         ensures ok { IfOk result (IsSimple clusters harts budget) }
         ensures accepted { IfOk result (λ _. simple_refusal clusters harts budget ≡ None) }
         ensures err { IfErr result (λ refusal. simple_refusal clusters harts budget ≡ Some refusal) }
     {
-        if !(1..=16).contains(&clusters) {
-            return Err(TopoRefusal::Range { key: Key::Clusters });
-        }
-        if !(1..=4).contains(&harts) {
-            return Err(TopoRefusal::Range { key: Key::Harts });
-        }
-        if !(1..=2_147_483_647).contains(&budget) {
-            return Err(TopoRefusal::Range { key: Key::Budget });
-        }
-        let all = clusters * harts;
-        if u64::from(all) * u64::from(budget) > 2_000_000 {
-            return Err(TopoRefusal::TooMuch);
+        let sizes = Sizes::simple(clusters, harts, budget);
+        Topology::of(&sizes)
+    }
+
+    /// The topology of these sizes. It refuses the first key out of its bounds, in the order of the
+    /// table of keys; then the first that is no power of two and has to be one; then too much work.
+    pub fn of(sizes: &Sizes) -> Result<Topology, TopoRefusal>
+        ensures ok { IfOk result (HasSizes sizes.now) }
+        ensures accepted { IfOk result (λ _. sizes_refusal sizes.now ≡ None) }
+        ensures err { IfErr result (λ refusal. sizes_refusal sizes.now ≡ Some refusal) }
+    {
+        if let Some(refusal) = sizes.refusal() {
+            return Err(refusal);
         }
         Ok(Topology {
-            clusters,
-            harts,
-            budget,
-            memory: 1_048_576,
-            locks: 64,
-            base: 0,
-            l2: 256,
-            l1: 16,
-            buffer: 4,
-            acks: 4,
-            prefetch: 2,
-            stack: 1_048_576 / (4 * all) / 16 * 16,
+            clusters: sizes.clusters,
+            harts: sizes.harts,
+            budget: sizes.budget,
+            memory: sizes.memory,
+            locks: sizes.locks,
+            base: sizes.base,
+            l2: sizes.l2,
+            l1: sizes.l1,
+            buffer: sizes.buffer,
+            acks: sizes.acks,
+            prefetch: sizes.prefetch,
+            stack: sizes.stack,
         })
     }
 }

@@ -17,3 +17,5 @@ mod flat_runs;
 mod harts;
 #[cfg(test)]
 mod spelling;
+#[cfg(test)]
+mod topologies;

@@ -1,0 +1,3 @@
+pub mod LeastName
+pub mod Refused
+pub mod NoSizes
