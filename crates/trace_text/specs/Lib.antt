@@ -1,0 +1,4 @@
+pub mod Spelling
+pub mod AccessText
+pub mod MsgText
+pub mod LogText

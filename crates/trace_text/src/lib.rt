@@ -1,0 +1,13 @@
+//! The text of logs: what happened in a run of the machine, an event a line.
+//!
+//! A log has one text. This crate knows how each event is spelled, and nothing of how it came about.
+#![tactic(auto)]
+
+pub use accesses::push_access;
+pub use log::write_log;
+
+mod accesses;
+mod ends;
+mod kinds;
+mod log;
+mod messages;

@@ -1,0 +1,41 @@
+//! The text of a log.
+ghost use Rattle.std.specs.Prelude.{◌≡◌, ◌++◌, IfOk, OnOk, flat_map, string_bytes};
+ghost use Rattle.trace_text.specs.LogText.{event_line, log_text};
+
+use crate::kinds::push_kind;
+use dash_base::OutOfMemory;
+use dash_event::Event;
+use std::alloc::Global;
+use std::fmt::Write;
+
+/// The text of a log: the line `dash log 1`, and a line for each event, in order.
+pub fn write_log(alloc: Global, log: &[Event]) -> Result<Vec<u8>, OutOfMemory>
+    ensures { IfOk result (λ text. text.items ≡ log_text log.now) }
+{
+    let mut text = String::from_str(alloc, "dash log 1\n")?;
+    push_events(&mut text, log)?;
+    Ok(text.into_bytes())
+}
+
+/// A line for each event.
+fn push_events(text: &mut String, log: &[Event]) -> Result<(), OutOfMemory>
+    ensures { OnOk result (string_bytes text.new ≡ string_bytes text.old ++ flat_map event_line log.now) }
+{
+    for event in log {
+        push_event(text, event)?;
+    }
+    Ok(())
+}
+
+/// Appends the line of an event, with its newline.
+#[tactic(auto, unfolding(crate::specs::LogText::event_line))]
+pub fn push_event(text: &mut String, event: &Event) -> Result<(), OutOfMemory>
+    ensures { OnOk result (string_bytes text.new ≡ string_bytes text.old ++ event_line event.now) }
+{
+    let stamp = event.stamp;
+    let cluster = event.cluster.0;
+    write!(text, "{stamp} {cluster} ")?;
+    push_kind(text, &event.kind)?;
+    text.push_str("\n")?;
+    Ok(())
+}
