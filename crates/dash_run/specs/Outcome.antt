@@ -1,11 +1,10 @@
 -- The output of a call of the program, and how it may end.
 use Rattle.std.specs.Prelude.{◌≡◌, ℕ, ◌<◌, ◌≤◌, ◌⊎◌, List, [], ◌∷◌, ◌++◌, length, map, fold, codes, decimal, Option, Some, None, IfSome, IsSomeAnd}
 use Rattle.dash_base.specs.Outside.{Files, Printed, Appends, AppendsPart, Follows, Rose, last_count, Call, load_of, print_on, failed_print_on, with_calls}
+use Rattle.dash_base.specs.Names.{key_name}
 use Rattle.dash_base.specs.Topology.{IsSimple, simple_refusal}
 use Rattle.dash_base.specs.declared.host.Stream.{Stream}
 use Rattle.dash_base.specs.declared.host.Stream.TheVariants as stream
-use Rattle.dash_base.specs.declared.topology.Key.{Key}
-use Rattle.dash_base.specs.declared.topology.Key.TheVariants as key
 use Rattle.dash_base.specs.declared.topology.Topology.{Topology}
 use Rattle.dash_base.specs.declared.topology.TopoRefusal.{TopoRefusal}
 use Rattle.dash_base.specs.declared.topology.TopoRefusal.TheVariants as topo
@@ -21,7 +20,8 @@ use Rattle.flat_model.specs.Run.{IsCompleteSequentialRun}
 use Rattle.flat_model.specs.Represents.{harts_of}
 use Rattle.dash_run.specs.CommandLine.{Request, Asks, IsUsageError}
 use Rattle.dash_run.specs.Log.{IsRotationRun}
-use Rattle.dash_run.specs.Report.{newline, hex, report_of, status_of}
+use Rattle.dash_run.specs.Report.{report_of, status_of}
+use Rattle.trace_text.specs.Spelling.{newline, hex}
 
 -- an image file has at most so many bytes
 abbrev pub image_limit : ℕ
@@ -39,27 +39,12 @@ unfoldable pub large_line : List ℕ → ℕ → List ℕ
 large_line name size =
     codes "dash: " ++ (name ++ (codes ": " ++ (decimal size ++ (codes " bytes, limit " ++ (decimal image_limit ++ newline)))))
 
--- the name of a key
-abbrev pub key_text : Key → List ℕ
-key_text key.Clusters = codes "clusters"
-key_text key.Harts = codes "harts"
-key_text key.Budget = codes "budget"
-key_text key.Memory = codes "memory"
-key_text key.Locks = codes "locks"
-key_text key.Base = codes "base"
-key_text key.L2 = codes "l2"
-key_text key.L1 = codes "l1"
-key_text key.Buffer = codes "buffer"
-key_text key.Acks = codes "acks"
-key_text key.Prefetch = codes "prefetch"
-key_text key.Stack = codes "stack"
-
 abbrev pub topology_text : TopoRefusal → List ℕ
 topology_text topo.Syntax = codes "syntax"
-topology_text (topo.Missing k) = codes "missing " ++ key_text k
+topology_text (topo.Missing k) = codes "missing " ++ key_name k
 topology_text (topo.Unknown name) = codes "unknown " ++ name
-topology_text (topo.Range k) = codes "range " ++ key_text k
-topology_text (topo.NotPower k) = codes "not a power of two " ++ key_text k
+topology_text (topo.Range k) = codes "range " ++ key_name k
+topology_text (topo.NotPower k) = codes "not a power of two " ++ key_name k
 topology_text topo.TooMuch = codes "too much"
 topology_text topo.OutOfMemory = []
 

@@ -1,22 +1,17 @@
 -- The text of a report, and the exit status of a run.
-use Rattle.std.specs.Prelude.{ℕ, ◌+◌, ◌^◌, ◌-◌, Bool, true, false, ◌&&◌, not, nat_lt, if◌then◌else◌, List, [], ◌∷◌, ◌++◌, length, slice_range, codes, decimal, flat_map, Option, Some, None}
+use Rattle.std.specs.Prelude.{ℕ, ◌+◌, Bool, true, false, ◌&&◌, not, nat_lt, if◌then◌else◌, List, [], ◌∷◌, ◌++◌, length, slice_range, codes, decimal, flat_map}
 use Rattle.std.specs.List.{list_any}
-use Rattle.std.specs.Fmt.{digits, format_spec, padded_integral}
 use Rattle.dash_base.specs.declared.end.End.{End}
 use Rattle.dash_base.specs.declared.end.End.TheVariants.{Running, Exited, Trapped}
-use Rattle.dash_base.specs.declared.end.Trap.{Trap}
-use Rattle.dash_base.specs.declared.end.Trap.TheVariants as trap
 use Rattle.dash_base.specs.declared.topology.Topology.{Topology}
 use Rattle.dash_event.specs.declared.access.Access.{Access}
-use Rattle.dash_event.specs.declared.access.Op.{Op}
-use Rattle.dash_event.specs.declared.access.Op.TheVariants as op
-use Rattle.dash_event.specs.declared.access.Seen.{Seen}
-use Rattle.dash_event.specs.declared.access.Seen.TheVariants as seen
 use Rattle.dash_event.specs.declared.event.Event.{Event}
 use Rattle.hart_core.specs.HartState.{HartState, is_running}
 use Rattle.flat_model.specs.State.{FlatState}
 use Rattle.flat_model.specs.Represents.{harts_of}
 use Rattle.dash_event.specs.Records.{accesses_of}
+use Rattle.trace_text.specs.Spelling.{newline, hex, cause_text}
+use Rattle.trace_text.specs.AccessText.{access_text}
 
 abbrev pub is_trapped : End → Bool
 is_trapped (Trapped cause value) = true
@@ -40,23 +35,6 @@ status_of t harts =
     else (if list_any (has_spent t) harts then 10
     else (if list_any (is_left t) harts then 12
     else 0))
-
--- eight small hexadecimal digits
-unfoldable pub hex : ℕ → List ℕ
-hex n = padded_integral (format_spec 32 0 4 8 (2 ^ 64 - 1)) false [] (digits 16 false n)
-
-abbrev pub newline : List ℕ
-newline = 10 ∷ []
-
-abbrev pub cause_text : Trap → List ℕ
-cause_text trap.Illegal = codes "illegal"
-cause_text trap.Misaligned = codes "misaligned"
-cause_text trap.Unmapped = codes "unmapped"
-cause_text trap.ReadOnly = codes "readonly"
-cause_text trap.Fetch = codes "fetch"
-cause_text trap.LockUse = codes "lockuse"
-cause_text trap.BadCall = codes "badcall"
-cause_text trap.Break = codes "break"
 
 -- how a hart that may have instructions left rests
 abbrev pub end_text : Bool → End → List ℕ
@@ -102,43 +80,9 @@ status_line status = codes "status " ++ decimal status ++ newline
 unfoldable pub harts_section : Topology → List HartState → List ℕ
 harts_section t harts = harts_text t 0 harts ++ status_line (status_of t harts)
 
-abbrev pub op_text : Op → List ℕ
-op_text op.Load = codes "load"
-op_text op.Store = codes "store"
-op_text op.Reserve = codes "lr"
-op_text op.Cond = codes "sc"
-op_text op.Amo = codes "amo"
-op_text op.Ask = codes "ask"
-op_text op.Unlock = codes "unlock"
-
-abbrev pub labels_text : Bool → Bool → List ℕ
-labels_text false false = codes "-"
-labels_text true false = codes "a"
-labels_text false true = codes "r"
-labels_text true true = codes "ar"
-
--- a word, or `-` for none
-abbrev pub word_text : Option ℕ → List ℕ
-word_text (Some word) = hex word
-word_text None = codes "-"
-
-abbrev pub seen_text : Seen → List ℕ
-seen_text (seen.Line version) = codes "line " ++ decimal version
-seen_text (seen.Own number) = codes "own " ++ decimal number
-seen_text (seen.Lock count) = codes "lock " ++ decimal count
-seen_text seen.Nothing = codes "-"
-
--- an access: its hart, number, operation, labels, word, mask, what it read, what it wrote, and what it was shown
-unfoldable pub access_head : Access → List ℕ
-access_head a =
-    decimal a.hart.0 ++ codes " " ++ decimal a.number ++ codes " " ++ op_text a.op ++ codes " " ++ labels_text a.labels.aq a.labels.rl ++ codes " "
-
-unfoldable pub access_tail : Access → List ℕ
-access_tail a =
-    hex a.word.0 ++ codes " " ++ digits 16 false a.mask ++ codes " " ++ word_text a.read ++ codes " " ++ word_text a.written ++ codes " "
-
+-- the line of an access
 unfoldable pub access_line : Access → List ℕ
-access_line a = access_head a ++ access_tail a ++ seen_text a.seen ++ newline
+access_line a = access_text a ++ newline
 
 unfoldable pub access_section : List Access → List ℕ
 access_section accesses =

@@ -1,6 +1,7 @@
 //! The lines on standard error.
 ghost use Rattle.std.specs.Prelude.{◌≡◌, ◌++◌, IfOk, OnOk, string_bytes};
-ghost use Rattle.dash_run.specs.Outcome.{usage_line, failed_line, large_line, topology_line, topology_text, key_text, refusal_line, refusal_text, image_limit};
+ghost use Rattle.dash_base.specs.Names.{key_name};
+ghost use Rattle.dash_run.specs.Outcome.{usage_line, failed_line, large_line, topology_line, topology_text, refusal_line, refusal_text, image_limit};
 
 use dash_base::{Key, OutOfMemory, TopoRefusal};
 use elf_load::LoadRefusal;
@@ -66,30 +67,11 @@ fn push_cause(text: &mut String, refusal: &TopoRefusal) -> Result<(), OutOfMemor
 }
 
 fn push_key(text: &mut String, cause: &str, key: Key) -> Result<(), OutOfMemory>
-    ensures { OnOk result (string_bytes text.new ≡ string_bytes text.old ++ (cause.now ++ key_text key)) }
+    ensures { OnOk result (string_bytes text.new ≡ string_bytes text.old ++ (cause.now ++ key_name key)) }
 {
     text.push_str(cause)?;
-    text.push_str(key_name(key))?;
+    text.push_str(key.name())?;
     Ok(())
-}
-
-fn key_name(key: Key) -> &'static str
-    ensures { result.now ≡ key_text key }
-{
-    match key {
-        Key::Clusters => "clusters",
-        Key::Harts => "harts",
-        Key::Budget => "budget",
-        Key::Memory => "memory",
-        Key::Locks => "locks",
-        Key::Base => "base",
-        Key::L2 => "l2",
-        Key::L1 => "l1",
-        Key::Buffer => "buffer",
-        Key::Acks => "acks",
-        Key::Prefetch => "prefetch",
-        Key::Stack => "stack",
-    }
 }
 
 /// The line for an image that is refused.
@@ -104,7 +86,7 @@ pub fn refused(alloc: Global, refusal: LoadRefusal) -> Result<String, OutOfMemor
 }
 
 /// The number of a refusal, and why the image is refused.
-#[tactic(auto, unfolding(crate::specs::Report::hex))]
+#[tactic(auto, unfolding(trace_text::specs::Spelling::hex))]
 fn push_refusal(text: &mut String, refusal: LoadRefusal) -> Result<(), OutOfMemory>
     ensures { OnOk result (string_bytes text.new ≡ string_bytes text.old ++ refusal_text refusal) }
 {

@@ -1,12 +1,14 @@
 //! The text of a report, and the exit status of a run.
 ghost use Rattle.std.specs.Prelude.{◌≡◌, ◌++◌, codes, length, IfOk, OnOk, string_bytes, nat_lt};
 ghost use Rattle.std.specs.List.{list_any};
-ghost use Rattle.dash_run.specs.Report.{hex, status_of, has_trapped, has_spent, is_left, cause_text, end_text, console_section, hart_line, register_line, hart_text, harts_text, status_line, harts_section, words_text};
+ghost use Rattle.trace_text.specs.Spelling.{hex};
+ghost use Rattle.dash_run.specs.Report.{status_of, has_trapped, has_spent, is_left, end_text, console_section, hart_line, register_line, hart_text, harts_text, status_line, harts_section, words_text};
 
-use dash_base::{End, OutOfMemory, Topology, Trap};
+use dash_base::{End, OutOfMemory, Topology};
 use hart_core::Hart;
 use std::alloc::Global;
 use std::fmt::Write;
+use trace_text::cause_name;
 
 /// The exit status of a run whose harts stopped like this.
 pub fn status_of(topology: &Topology, harts: &[Hart]) -> u8
@@ -120,7 +122,7 @@ fn push_hart(
 }
 
 /// The line that says how a hart rests.
-#[tactic(auto, unfolding(crate::specs::Report::hart_line, crate::specs::Report::hex))]
+#[tactic(auto, unfolding(crate::specs::Report::hart_line, trace_text::specs::Spelling::hex))]
 fn push_hart_line(
     text: &mut String,
     topology: &Topology,
@@ -138,7 +140,7 @@ fn push_hart_line(
 }
 
 /// How a hart that may have instructions left rests.
-#[tactic(auto, unfolding(crate::specs::Report::hex))]
+#[tactic(auto, unfolding(trace_text::specs::Spelling::hex))]
 fn push_end(text: &mut String, end: End, has_left: bool) -> Result<(), OutOfMemory>
     ensures { OnOk result (string_bytes text.new ≡ string_bytes text.old ++ end_text has_left end) }
 {
@@ -151,21 +153,6 @@ fn push_end(text: &mut String, end: End, has_left: bool) -> Result<(), OutOfMemo
         End::Running => text.push_str(if has_left { "waits" } else { "budget" })?,
     }
     Ok(())
-}
-
-fn cause_name(cause: Trap) -> &'static str
-    ensures { result.now ≡ cause_text cause }
-{
-    match cause {
-        Trap::Illegal => "illegal",
-        Trap::Misaligned => "misaligned",
-        Trap::Unmapped => "unmapped",
-        Trap::ReadOnly => "readonly",
-        Trap::Fetch => "fetch",
-        Trap::LockUse => "lockuse",
-        Trap::BadCall => "badcall",
-        Trap::Break => "break",
-    }
 }
 
 /// A line of registers, after the name of the first of them.
@@ -181,7 +168,7 @@ fn push_registers(text: &mut String, label: &str, words: &[u32]) -> Result<(), O
     Ok(())
 }
 
-#[tactic(auto, unfolding(crate::specs::Report::hex))]
+#[tactic(auto, unfolding(trace_text::specs::Spelling::hex))]
 fn push_word(text: &mut String, word: u32) -> Result<(), OutOfMemory>
     ensures { OnOk result (string_bytes text.new ≡ string_bytes text.old ++ (codes " " ++ hex word)) }
 {

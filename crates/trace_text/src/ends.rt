@@ -22,7 +22,8 @@ pub fn push_end(text: &mut String, end: End) -> Result<(), OutOfMemory>
     Ok(())
 }
 
-fn cause_name(cause: Trap) -> &'static str
+/// The name of a trap's cause.
+pub fn cause_name(cause: Trap) -> &'static str
     ensures { result.now ≡ cause_text cause }
 {
     match cause {

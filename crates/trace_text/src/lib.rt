@@ -4,6 +4,7 @@
 #![tactic(auto)]
 
 pub use accesses::push_access;
+pub use ends::cause_name;
 pub use log::write_log;
 
 mod accesses;
