@@ -1,5 +1,5 @@
 -- The parts at the start, where a hart then owns the first line of memory, keep the sizes of the topology.
-use Rattle.std.proofs.Common.{◌≡◌, ℕ, ◌<◌, refl, sym, subst}
+use Rattle.std.proofs.Common.{◌≡◌, ℕ, ◌<◌, true, refl, sym, subst}
 use Rattle.dash_base.specs.declared.line.Line.{Line}
 use Rattle.dash_base.specs.Places.{line_count}
 use Rattle.snoop_bus.specs.Holding.{held_by}

@@ -1,4 +1,4 @@
-use Rattle.std.proofs.Common.{◌≡◌, ◌<◌, sym, subst}
+use Rattle.std.proofs.Common.{◌<◌, sym, subst, arith}
 use Rattle.dash_base.specs.declared.need.Need.{Need}
 use Rattle.dash_base.specs.declared.need.Need.TheVariants.{Rmw}
 use Rattle.hart_core.specs.Meaning.{Needs, IsNext}
@@ -14,4 +14,4 @@ atomic-requires-clause-need c = λ d.
     let x = c.index.result.now in
     let need : Need = Rmw c.in-Rmw.word c.in-Rmw.op c.in-Rmw.operand c.in-Rmw.labels in
     let next : IsNext w.image w.top x.core need = subst (λ n. IsNext w.image w.top x.core n) c.in-Rmw.is c.next.ensures.next in
-    subst (λ (y : Local). Needs w.image w.top y.core need) (sym (one_local v 0 x ? c.index.ensures d)) (next_needs w.image w.top x.core need next (λ e. absurd (cc)))
+    subst (λ (y : Local). Needs w.image w.top y.core need) (sym (one_local v 0 x (subst (λ n. 0 < n) (sym c.requires.locals) (omega (arith, w.top.harts_in_range))) c.index.ensures d)) (next_needs w.image w.top x.core need next (λ e. absurd (cc)))
