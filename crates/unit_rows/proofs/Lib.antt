@@ -55,3 +55,6 @@ pub mod EvictRow
 pub mod EvictTold
 pub mod Resting
 pub mod AskRow
+pub mod LinesInside
+pub mod AskCauses
+pub mod AskTold

@@ -5,7 +5,7 @@
 //! the part that they show afterwards, and sends what is handed back. Where the answer is none, no event
 //! of that choice may happen. No call but `opening_parts` takes memory.
 //!
-//! Not here yet: atomic operations that write, and the first asking of a slot.
+//! Not here yet: atomic operations that write.
 #![tactic(auto)]
 
 pub use bus::{bus_own, bus_read, fits_bus_own, fits_bus_read};
@@ -21,12 +21,13 @@ pub use lock_words::{free, grant, is_free};
 pub use messages::take;
 pub use opening::opening_parts;
 pub use parts::{Local, Parts};
-pub use requests::{again, fits_again};
+pub use requests::{again, fits_again, fits_request, request};
 pub use site::Site;
 pub use stores::{sc_fail, store};
 
 mod burst;
 mod bus;
+mod causes;
 mod choice;
 mod commits;
 mod evictions;
