@@ -58,3 +58,6 @@ pub mod AskRow
 pub mod LinesInside
 pub mod AskCauses
 pub mod AskTold
+pub mod OpeningSizes
+pub mod Ready
+pub mod LawsOffered
