@@ -1,0 +1,3 @@
+pub mod Enabling
+pub mod Order
+pub mod Lists
