@@ -1,0 +1,4 @@
+pub mod Lanes
+pub mod Sending
+pub mod OnePart
+pub mod Cores

@@ -1,3 +1,9 @@
 pub mod Enabling
 pub mod Order
 pub mod Lists
+pub mod View
+pub mod Ends
+pub mod Core
+pub mod Turns
+pub mod Messages
+pub mod Choosing

@@ -55,3 +55,4 @@ pub mod EvictRow
 pub mod EvictTold
 pub mod Resting
 pub mod AskRow
+pub mod LawsOffered
