@@ -5,3 +5,5 @@ pub use Rattle.unit_rows.proofs.Sized.{SameSizes, same_sizes, sized_line, sized_
 pub use Rattle.unit_rows.proofs.LineNeeds.{next_needs}
 pub use Rattle.unit_rows.proofs.Retiring.{one_local}
 pub use Rattle.unit_rows.proofs.AcksOn.{begun_in_range}
+pub use Rattle.unit_rows.proofs.OpeningStores.{opening_stores}
+pub use Rattle.unit_rows.proofs.Ready.{askers_go_on, stores_are_of_memory}

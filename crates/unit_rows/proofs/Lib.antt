@@ -56,7 +56,11 @@ pub mod EvictRow
 pub mod EvictTold
 pub mod Resting
 pub mod AskRow
-
 pub mod AtomicRows
 pub mod AtomicTold
+pub mod LinesInside
+pub mod AskCauses
+pub mod AskTold
+pub mod OpeningStores
+pub mod Ready
 pub mod LawsOffered
