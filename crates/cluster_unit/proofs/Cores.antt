@@ -17,7 +17,7 @@ use Rattle.dash_event.specs.declared.event.Kind.TheVariants as kind
 use Rattle.mesh_lanes.specs.View.{OutletView, InletView}
 use Rattle.dash_model.specs.Maps.{raised, most}
 use Rattle.dash_model.specs.Config.{Config}
-use Rattle.dash_model.specs.Net.{Packet, packet}
+use Rattle.dash_model.specs.Net.{Packet, lane, packet}
 use Rattle.dash_model.specs.Part.{Part, opening_part}
 use Rattle.dash_model.specs.Machine.{taken, stamp_of, next_stamp}
 use Rattle.dash_model.specs.LocalRun.{part_at, sent_in, received_in}
@@ -32,7 +32,7 @@ use Rattle.unit_rows.specs.Local.{IsLocal, event_at}
 use Rattle.unit_rows.proofs.LawsOffered.{local_more, opening_shows, opening_sized}
 use Rattle.cluster_unit.specs.Enabling.{is_take}
 use Rattle.cluster_unit.specs.View.{CoreView}
-use Rattle.cluster_unit.specs.Ends.{place, AllOfClass, Carry, AreOfClass, Brought, Sends, HaveSpare}
+use Rattle.cluster_unit.specs.Ends.{place, parcels, AllOfClass, Carry, AreOfClass, Brought, Sends, HaveSpare}
 use Rattle.cluster_unit.specs.Core.{HasRun, IsAt, IsCore}
 use Rattle.cluster_unit.specs.Turns.{IsIdle, SameOutlets, Happened, OthersStay, Received}
 use Rattle.cluster_unit.specs.Messages.{Took}
@@ -237,6 +237,11 @@ hart_is v last a capacity n x p k low is at =
     let s = (shows_at v last a capacity p k at).harts n x low in
     (s.core ∙ ap (λ (y : Local). y.core) (sym is), s.asked ∙ ap (λ (y : Local). y.asked) (sym is))
 
+-- no parcels are of no packets
+no_parcels : (a b : ℕ) (k : Class) → parcels a b k [] ≡ []
+unfolding lane
+no_parcels a b k = refl
+
 -- a place among the ends of n clusters
 within : (n d : ℕ) (k : Class) → d < n → place d k < 2 * n
 within n d Request low = grind arith
@@ -261,8 +266,8 @@ opened w c v outlets inlets log capacity mine opening count_out count_in unsent 
   sent = [];
   received = [];
   local = record { history = []; events = refl; ran = tt; shows = opening_shows w c v opening; last_is = refl; sent_is = sent_none w c; received_is = received_none c };
-  carry = λ d k x low. unsent (place d k) x (subst (λ n. place d k < n) (sym count_out) (within w.top.clusters d k low));
-  brought = λ honest f k x low. untaken (place f k) x (subst (λ n. place f k < n) (sym count_in) (within w.top.clusters f k low));
+  carry = λ d k x low. unsent (place d k) x (subst (λ n. place d k < n) (sym count_out) (within w.top.clusters d k low)) ∙ sym (no_parcels c d k);
+  brought = λ honest f k x low. untaken (place f k) x (subst (λ n. place f k < n) (sym count_in) (within w.top.clusters f k low)) ∙ sym (no_parcels f c k);
   sized = opening_sized w c v opening;
   mine = mine;
   outlets = count_out;

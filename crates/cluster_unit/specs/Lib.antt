@@ -6,4 +6,5 @@ pub mod Ends
 pub mod Core
 pub mod Turns
 pub mod Messages
+pub mod Reserving
 pub mod Choosing

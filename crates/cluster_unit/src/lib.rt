@@ -10,6 +10,7 @@ mod ends;
 mod events;
 mod list;
 mod messages;
+mod reserve;
 mod step;
 mod turn;
 mod unit_core;
