@@ -8,3 +8,4 @@ pub mod Turns
 pub mod Messages
 pub mod Reserving
 pub mod Choosing
+pub mod Takes
