@@ -5,3 +5,4 @@ pub mod Looking
 pub mod Cores
 pub mod TakesListed
 pub mod Listed
+pub mod Turning

@@ -19,30 +19,14 @@ use Rattle.unit_rows.specs.Shown.{PartsView, Shows}
 use Rattle.unit_rows.specs.Rows.{Enabled}
 use Rattle.cluster_unit.specs.Enabling.{Can, is_take}
 use Rattle.cluster_unit.specs.View.{CoreView}
-use Rattle.cluster_unit.specs.Ends.{place, Looked}
-use Rattle.cluster_unit.specs.Takes.{knows, takes_of}
+use Rattle.cluster_unit.specs.Ends.{place, knows, Looked}
+use Rattle.cluster_unit.specs.Takes.{takes_of}
 use Rattle.cluster_unit.specs.Order.{IsBefore, AreInOrder}
 use Rattle.cluster_unit.specs.Lists.{ListsOwn}
 use Rattle.cluster_unit.specs.Core.{IsAt, IsCore}
 use Rattle.cluster_unit.specs.Choosing.{Shown, MayDo, Lists}
 use Rattle.cluster_unit.proofs.Cores.{shows_at, core_kept, ends_back}
 use Rattle.cluster_unit.proofs.TakesListed.{IsTakeOf, takes_just, takes_whole, takes_ordered, order_append, before_each, itself_there, before_take}
-
--- an end that knows of a message shows one, and the other way round
-shown_some : (xs : List InletView) (j : ℕ) (x : InletView) → j < length xs → knows (slice_get xs j) ≡ true → 0 < length (slice_index_or xs j x).known
-shown_some xs j x low e = let f : nat_lt 0 (length (slice_index_or xs j x).known) ≡ true = sym (ap knows (slice_get-get_or xs j x low)) ∙ e in grind (arith, nat_tests)
-
-knows_some : (xs : List InletView) (j : ℕ) (x : InletView) → j < length xs → 0 < length (slice_index_or xs j x).known → knows (slice_get xs j) ≡ true
-knows_some xs j x low some = ap knows (slice_get-get_or xs j x low) ∙ (let f : nat_lt 0 (length (slice_index_or xs j x).known) ≡ true = grind (arith, nat_tests) in f)
-
-within : (n d : ℕ) (k : Class) → d < n → place d k < 2 * n
-within n d Request low = grind arith
-within n d Reply low = grind arith
-
--- some inlet, where there is one
-knows_any : (xs : List InletView) (j : ℕ) → j < length xs → ((x : InletView) → 0 < length (slice_index_or xs j x).known) → knows (slice_get xs j) ≡ true
-knows_any [] j low some = absurd (grind arith)
-knows_any (x ∷ xs) j low some = knows_some (x ∷ xs) j x low (some x)
 
 own_may : (b : CoreView) (x : Choice) (p : Part) → is_take x ≡ false → Enabled b.config b.cluster x p → MayDo b x p
 own_may b (choice.Take f k) p own able = absurd (cc)
@@ -88,22 +72,26 @@ listed v last a capacity inlets own choices k lists looked is = record {
   where
     n : ℕ
     n = a.config.top.clusters
+
     b : CoreView
     b = record a { inlets = inlets }
-    many : length inlets ≡ 2 * a.config.top.clusters
-    many = looked.count ∙ k.inlets
+
+
     shown : (p : Part) → IsAt b p → Shows a.config a.cluster v p
     shown p at = shows_at v last a capacity p k (record { history = at.history; events = at.events; ran = at.ran; part = at.part })
+
     take_may : (x : Choice) (p : Part) → IsTakeOf inlets n x → MayDo b x p
-    take_may x p t = subst (λ y. MayDo b y p) (sym t.is) (record { low = t.below; some = λ z. shown_some inlets (place t.from t.class) z (subst (λ m. place t.from t.class < m) (sym many) (within n t.from t.class t.below)) t.shows })
+    take_may x p t = subst (λ y. MayDo b y p) (sym t.is) (record { low = t.below; some = t.shows })
+
     just_by : (x : Choice) (p : Part) → IsAt b p → Contains own x ⊎ Contains (takes_of inlets n) x → MayDo b x p
     just_by x p at (inl there) = own_may b x p (All-contains (λ y. is_take y ≡ false) own x lists.own there) (All-contains (Can a.config a.cluster v) own x lists.just there p (shown p at))
     just_by x p at (inr there) = take_may x p (takes_just inlets n x there)
+
     whole_by : (x : Choice) (p : Part) → IsAt b p → Kinds b x p → Contains (own ++ takes_of inlets n) x
     whole_by x p at (Own none able) = Contains-append_left own (takes_of inlets n) x (lists.whole x p (shown p at) none able)
     whole_by x p at (Takes f j x_is shows) =
         subst (Contains (own ++ takes_of inlets n)) (sym x_is)
-        (Contains-append_right own (takes_of inlets n) (choice.Take f j) (takes_whole inlets n f.0 j shows.low (knows_any inlets (place f.0 j) (subst (λ m. place f.0 j < m) (sym many) (within n f.0 j shows.low)) shows.some)))
+        (Contains-append_right own (takes_of inlets n) (choice.Take f j) (takes_whole inlets n f.0 j shows.low shows.some))
 
 -- and the core keeps what it keeps
 pub core_listed : {Z : Type 0} (v : PartsView) (last : ℕ) (a : CoreView) (capacity : ℕ) (ins : Vec InletView Z) (lent inlets : List InletView) → IsCore v last a capacity → lent ≡ a.inlets → length lent ≡ ins.len → Looked lent inlets

@@ -8,8 +8,8 @@ use Rattle.dash_msg.specs.declared.classes.Class.TheVariants.{Request, Reply}
 use Rattle.dash_msg.specs.declared.parcel.Parcel.{Parcel}
 use Rattle.mesh_lanes.specs.View.{InletView}
 use Rattle.unit_rows.specs.declared.choice.Choice.{Choice}
-use Rattle.cluster_unit.specs.Ends.{place, Looked}
-use Rattle.cluster_unit.specs.Takes.{knows, take_if, takes_from, takes_of}
+use Rattle.cluster_unit.specs.Ends.{place, knows, Looked}
+use Rattle.cluster_unit.specs.Takes.{take_if, takes_from, takes_of}
 use Rattle.cluster_unit.proofs.Sending.{at_or_not}
 
 begins : (xs : List Parcel) → IsPrefix xs xs

@@ -12,8 +12,8 @@ use Rattle.dash_model.specs.Part.{Part}
 use Rattle.unit_rows.specs.declared.choice.Choice.{Choice}
 use Rattle.unit_rows.specs.declared.choice.Choice.TheVariants.{Take}
 use Rattle.cluster_unit.specs.Enabling.{is_take}
-use Rattle.cluster_unit.specs.Ends.{place}
-use Rattle.cluster_unit.specs.Takes.{knows, take_if, takes_from, takes_of}
+use Rattle.cluster_unit.specs.Ends.{place, knows}
+use Rattle.cluster_unit.specs.Takes.{take_if, takes_from, takes_of}
 use Rattle.cluster_unit.specs.Order.{kind_place, number_in, IsSooner, IsBefore, IsBeforeAll, AreInOrder}
 
 -- a choice to take a message from one of the first n clusters, whose lane shows one
@@ -111,6 +111,7 @@ at_from xs n x there = by_case (Contains-append_cases (take_if (knows (slice_get
     of_if : (b : Bool) (k : Class) → Contains (take_if b n k) x → x ≡ Take (cluster_id n) k
     of_if true k there = one_there x (Take (cluster_id n) k) there
     of_if false k there = absurd (none_there x there)
+
     by_case : Contains (take_if (knows (slice_get xs (place n Request))) n Request) x ⊎ Contains (take_if (knows (slice_get xs (place n Reply))) n Reply) x → (k : Class) × (x ≡ Take (cluster_id n) k)
     by_case (inl c) = (Request, of_if (knows (slice_get xs (place n Request))) Request c)
     by_case (inr c) = (Reply, of_if (knows (slice_get xs (place n Reply))) Reply c)

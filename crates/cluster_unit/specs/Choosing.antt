@@ -1,9 +1,8 @@
 -- The choices that a unit lists, and the one that it does.
-use Rattle.std.specs.Prelude.{◌≡◌, ℕ, ◌<◌, ◌≤◌, List, [], ◌∷◌, length, slice_index_or}
+use Rattle.std.specs.Prelude.{◌≡◌, ℕ, ◌<◌, ◌≤◌, true, List, [], ◌∷◌, length, slice_index_or, slice_get}
 use Rattle.std.specs.List.{Contains}
 use Rattle.dash_base.specs.declared.id.ClusterId.{ClusterId}
 use Rattle.dash_msg.specs.declared.classes.Class.{Class}
-use Rattle.mesh_lanes.specs.View.{InletView}
 use Rattle.dash_model.specs.Part.{Part}
 use Rattle.unit_rows.specs.declared.choice.Choice.{Choice}
 use Rattle.unit_rows.specs.declared.choice.Choice.TheVariants.{Take}
@@ -11,7 +10,7 @@ use Rattle.unit_rows.specs.Rows.{Enabled}
 use Rattle.cluster_unit.specs.declared.turn.Turn.{Turn}
 use Rattle.cluster_unit.specs.declared.turn.Turn.TheVariants.{Did, Idle}
 use Rattle.cluster_unit.specs.View.{CoreView}
-use Rattle.cluster_unit.specs.Ends.{place, Looked}
+use Rattle.cluster_unit.specs.Ends.{place, knows, Looked}
 use Rattle.cluster_unit.specs.Order.{AreInOrder}
 use Rattle.cluster_unit.specs.Core.{IsAt}
 use Rattle.cluster_unit.specs.Turns.{spent, Acted, TookFrom}
@@ -19,7 +18,7 @@ use Rattle.cluster_unit.specs.Turns.{spent, Acted, TookFrom}
 -- the lane of a class from a cluster of the machine showed a message
 pub record Shown (a : CoreView) (from : ClusterId) (k : Class) : Type 0 where
   pub low : from.0 < a.config.top.clusters
-  pub some : (x : InletView) → 0 < length (slice_index_or a.inlets (place from.0 k) x).known
+  pub some : knows (slice_get a.inlets (place from.0 k)) ≡ true
 
 -- a choice may be done: to take a message, where the lane shows one; any other, where it is enabled on the part that the log leads to
 abbrev pub MayDo : CoreView → Choice → Part → Type 0

@@ -1,5 +1,5 @@
 -- The ends of a cluster's lanes, and what went through them. They stand by the cluster at the other end, the request lane before the reply lane.
-use Rattle.std.specs.Prelude.{◌≡◌, ℕ, ◌+◌, ◌*◌, ◌<◌, ◌≤◌, ◌==◌, ◌&&◌, Bool, cond, List, [], ◌∷◌, ◌++◌, length, map, slice_index_or}
+use Rattle.std.specs.Prelude.{◌≡◌, ℕ, ◌+◌, ◌*◌, ◌<◌, ◌≤◌, ◌==◌, ◌&&◌, nat_lt, Bool, false, cond, Option, None, Some, List, [], ◌∷◌, ◌++◌, length, map, slice_index_or}
 use mathlib.Core.List.{IsPrefix}
 use Rattle.dash_msg.specs.Classes.{class_of}
 use Rattle.dash_msg.specs.declared.classes.Class.{Class}
@@ -8,6 +8,11 @@ use Rattle.dash_msg.specs.declared.parcel.Parcel.{Parcel}
 use Rattle.dash_msg.specs.declared.parcel.Sent.{Sent}
 use Rattle.mesh_lanes.specs.View.{OutletView, InletView}
 use Rattle.dash_model.specs.Net.{Packet, same_class, lane, packet}
+
+-- whether an end knows of a message that is taken next
+abbrev pub knows : Option InletView → Bool
+knows None = false
+knows (Some i) = nat_lt 0 (length i.known)
 
 -- the place among the ends of the lane to or from a cluster, of a class
 abbrev pub class_place : Class → ℕ

@@ -9,3 +9,4 @@ pub mod Messages
 pub mod Reserving
 pub mod Choosing
 pub mod Takes
+pub mod Picking

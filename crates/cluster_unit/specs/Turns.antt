@@ -1,5 +1,5 @@
 -- What a call of a unit's core does: one event of a choice, or none.
-use Rattle.std.specs.Prelude.{◌≡◌, ◌≢◌, ℕ, ◌-◌, ◌<◌, ◌≤◌, List, [], ◌∷◌, ◌++◌, length, slice_index_or}
+use Rattle.std.specs.Prelude.{◌≡◌, ◌≢◌, ℕ, ◌-◌, ◌<◌, ◌≤◌, false, List, [], ◌∷◌, ◌++◌, length, slice_index_or, slice_get}
 use mathlib.Core.List.{IsPrefix}
 use Rattle.dash_base.specs.declared.id.ClusterId.{ClusterId}
 use Rattle.dash_msg.specs.Classes.{class_of}
@@ -18,7 +18,7 @@ use Rattle.unit_rows.specs.Local.{event_at}
 use Rattle.cluster_unit.specs.declared.turn.Turn.{Turn}
 use Rattle.cluster_unit.specs.declared.turn.Turn.TheVariants.{Did, Idle}
 use Rattle.cluster_unit.specs.View.{CoreView}
-use Rattle.cluster_unit.specs.Ends.{place}
+use Rattle.cluster_unit.specs.Ends.{place, knows}
 use Rattle.cluster_unit.specs.Core.{IsAt}
 
 -- the choice is not enabled on the part that the log leads to
@@ -66,8 +66,8 @@ pub record Received (from : ClusterId) (k : Class) (a b : CoreView) : Type 0 whe
 
 -- the lane showed none, and nothing happened
 pub record ShowsNone (from : ClusterId) (k : Class) (a b : CoreView) : Type 0 where
-  pub none : (x : InletView) → (slice_index_or b.inlets (place from.0 k) x).known ≡ []
-  pub before : (x : InletView) → (slice_index_or a.inlets (place from.0 k) x).known ≡ []
+  pub none : knows (slice_get b.inlets (place from.0 k)) ≡ false
+  pub before : knows (slice_get a.inlets (place from.0 k)) ≡ false
   pub received : (x : InletView) → (slice_index_or b.inlets (place from.0 k) x).received ≡ (slice_index_or a.inlets (place from.0 k) x).received
   pub others : OthersStay (place from.0 k) a.inlets b.inlets
   pub same : b ≡ record a { inlets = b.inlets; reserved = a.reserved - 1 }

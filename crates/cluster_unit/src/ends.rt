@@ -1,8 +1,8 @@
 //! The ends of a cluster's lanes.
-ghost use Rattle.std.specs.Prelude.{◌≡◌, ℕ, ◌*◌, ◌<◌, ◌≤◌, [], ◌∷◌, ◌++◌, length, slice_index_or, option_to_list, IfSome, IfNone};
+ghost use Rattle.std.specs.Prelude.{◌≡◌, ℕ, ◌*◌, ◌<◌, ◌≤◌, [], ◌∷◌, ◌++◌, length, slice_index_or, slice_get, false, option_to_list, IfSome, IfNone};
 ghost use Rattle.mesh_lanes.specs.View.{OutletView, InletView};
 ghost use mathlib.Core.List.{IsPrefix};
-ghost use Rattle.cluster_unit.specs.Ends.{class_place, place, Sends};
+ghost use Rattle.cluster_unit.specs.Ends.{class_place, place, knows, Sends};
 ghost use Rattle.cluster_unit.specs.Turns.{OthersStay};
 
 use dash_base::ClusterId;
@@ -72,8 +72,8 @@ pub fn take_at(inlets: &mut [Inlet], at: usize) -> Option<Parcel>
     ensures others { OthersStay at inlets.old inlets.new }
     ensures some { IfSome result (λ q. (x : InletView) → (slice_index_or inlets.new at x).received ≡ (slice_index_or inlets.old at x).received ++ q ∷ []) }
     ensures next { IfSome result (λ q. (x : InletView) → IsPrefix (slice_index_or inlets.old at x).known (q ∷ (slice_index_or inlets.new at x).known)) }
-    ensures none { IfNone result ((x : InletView) → (slice_index_or inlets.new at x).known ≡ []) }
-    ensures before { IfNone result ((x : InletView) → (slice_index_or inlets.old at x).known ≡ []) }
+    ensures none { IfNone result (knows (slice_get inlets.new at) ≡ false) }
+    ensures before { IfNone result (knows (slice_get inlets.old at) ≡ false) }
     ensures same { IfNone result ((x : InletView) → (slice_index_or inlets.new at x).received ≡ (slice_index_or inlets.old at x).received) }
 {
     inlets[at].take()

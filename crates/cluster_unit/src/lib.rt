@@ -2,6 +2,7 @@
 #![tactic(auto)]
 
 pub use turn::Turn;
+pub use unit::Unit;
 pub use unit_core::Core;
 
 mod act;
@@ -15,4 +16,5 @@ mod reserve;
 mod step;
 mod takes;
 mod turn;
+mod unit;
 mod unit_core;

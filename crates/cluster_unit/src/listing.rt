@@ -1,5 +1,5 @@
 //! What a unit may do next.
-ghost use Rattle.std.specs.Prelude.{◌≡◌, ◌≤◌, vec_capacity};
+ghost use Rattle.std.specs.Prelude.{◌≡◌, ◌≤◌, length, vec_capacity};
 ghost use Rattle.cluster_unit.specs.Choosing.{Lists};
 
 use crate::list::list_own;
@@ -14,6 +14,7 @@ impl Core {
         requires room { 2048 ≤ vec_capacity choices.old }
         ensures lists { Lists self.old self.new choices.new.items }
         ensures room { vec_capacity choices.new ≡ vec_capacity choices.old }
+        ensures few { length choices.new.items ≤ 2048 }
     {
         list_own(&self.site, &self.parts, choices);
         list_takes(&mut self.inlets, self.site.topology.clusters, choices);

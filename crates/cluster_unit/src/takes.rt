@@ -1,8 +1,8 @@
 //! The choices to take a message.
 ghost use Rattle.std.specs.Prelude.{◌≡◌, ◌≢◌, ℕ, ◌+◌, ◌*◌, ◌<◌, ◌≤◌, ◌++◌, length, vec_capacity, slice_get};
 ghost use Rattle.cluster_unit.specs.Ends.{Looked};
-ghost use Rattle.cluster_unit.specs.Takes.{knows, take_if, takes_from, takes_of};
-ghost use Rattle.cluster_unit.specs.Ends.{place};
+ghost use Rattle.cluster_unit.specs.Takes.{take_if, takes_from, takes_of};
+ghost use Rattle.cluster_unit.specs.Ends.{place, knows};
 
 use crate::ends::place;
 use dash_base::ClusterId;
@@ -17,6 +17,7 @@ pub fn list_takes(inlets: &mut [Inlet], clusters: u32, choices: &mut Vec<Choice>
     requires room { length choices.old.items + 2 * clusters ≤ vec_capacity choices.old }
     ensures looked { Looked inlets.old inlets.new }
     ensures takes { choices.new.items ≡ choices.old.items ++ takes_of inlets.new clusters }
+    ensures few { length choices.new.items ≤ length choices.old.items + 2 * clusters }
     ensures room { vec_capacity choices.new ≡ vec_capacity choices.old }
 {
     for from in 0..clusters {

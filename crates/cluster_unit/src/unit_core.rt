@@ -1,5 +1,5 @@
 //! The core of a unit: its cluster's parts, and the log of what happened there.
-ghost use Rattle.std.specs.Prelude.{◌≡◌, ℕ, ◌*◌, ◌<◌, [], length, slice_index_or, IfOk};
+ghost use Rattle.std.specs.Prelude.{◌≡◌, ℕ, ◌*◌, ◌<◌, ◌≤◌, [], length, slice_index_or, IfOk};
 ghost use Rattle.mesh_lanes.specs.View.{OutletView, InletView};
 ghost use Rattle.dash_model.specs.Part.{Part};
 ghost use Rattle.unit_rows.specs.Shown.{config, hart_at};
@@ -87,6 +87,14 @@ impl Core {
         ensures { HasRun self.now }
     {
         let _log = &self.log;
+    }
+
+    /// How many harts its cluster has: from 1 to 4.
+    pub fn harts(&self) -> u32
+        ensures harts { result ≡ self.now.config.top.harts }
+        ensures few { result ≤ 4 }
+    {
+        self.site.topology.harts
     }
 
     /// What happened in its cluster so far.
