@@ -6,3 +6,4 @@ pub mod Cores
 pub mod TakesListed
 pub mod Listed
 pub mod Turning
+pub mod EndsMet

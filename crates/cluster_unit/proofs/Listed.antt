@@ -76,7 +76,6 @@ listed v last a capacity inlets own choices k lists looked is = record {
     b : CoreView
     b = record a { inlets = inlets }
 
-
     shown : (p : Part) → IsAt b p → Shows a.config a.cluster v p
     shown p at = shows_at v last a capacity p k (record { history = at.history; events = at.events; ran = at.ran; part = at.part })
 

@@ -9,4 +9,5 @@ pub mod Messages
 pub mod Reserving
 pub mod Choosing
 pub mod Takes
+pub mod Meeting
 pub mod Picking

@@ -1,6 +1,7 @@
 //! A cluster as a unit: what it may do next, and each event that it does as a step of the written machine.
 #![tactic(auto)]
 
+pub use meeting::meet_units;
 pub use turn::Turn;
 pub use unit::Unit;
 pub use unit_core::Core;
@@ -11,6 +12,7 @@ mod ends;
 mod events;
 mod list;
 mod listing;
+mod meeting;
 mod messages;
 mod reserve;
 mod step;
