@@ -2,3 +2,9 @@ pub mod Lanes
 pub mod Sending
 pub mod OnePart
 pub mod Cores
+pub mod Listing
+pub mod InRange
+pub mod BusListing
+pub mod LockListing
+pub mod InTheWay
+pub mod EvictListing
