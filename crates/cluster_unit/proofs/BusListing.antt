@@ -13,11 +13,11 @@ use Rattle.dash_model.specs.Wants.{NeedsCopy, FrontNeed, StoreNeed, NeedsOwn}
 use Rattle.unit_rows.specs.declared.choice.Choice.{Choice}
 use Rattle.unit_rows.specs.declared.choice.Choice.TheVariants as choice
 use Rattle.unit_rows.specs.Shown.{PartsView, hart_at, Shows}
-use Rattle.unit_rows.specs.LineNeeds.{IsNeeded}
+use Rattle.unit_rows.specs.LineNeeds.{is_this, IsNeeded}
 use Rattle.unit_rows.specs.Choices.{IsOf}
 use Rattle.unit_rows.specs.Rows.{Enabled}
 use Rattle.cluster_unit.specs.Order.{kind_place, number_in, IsBefore}
-use Rattle.cluster_unit.specs.Listing.{Offers, HasListed, IsBelow, IsReadOf, IsOwnOf, IsRead, IsWritten, is_found}
+use Rattle.cluster_unit.specs.Listing.{Offers, HasListed, IsBelow, IsReadOf, IsOwnOf, IsRead, IsWritten}
 use Rattle.cluster_unit.proofs.Listing.{is_before, number_over, one_more, regraded}
 
 -- what enabled choices need
@@ -124,15 +124,15 @@ module _ (w : Config) (c k : ℕ) (v : PartsView) where
   no_store found xs front none had =
       regraded w c v (IsWritten k found) (IsBelow 3 (k + 1)) xs had (λ y d. all_below found y d) (λ y p shows own able e. none_left found p y (none p shows) (sorted_out found p y front shows able e))
 
-  found_is : (found : Option LineId) (m : LineId) → is_found found m.0 ≡ true → IsOwnOf k found (choice.BusOwn k m)
+  found_is : (found : Option LineId) (m : LineId) → is_this found m.0 ≡ true → IsOwnOf k found (choice.BusOwn k m)
   found_is None m e = absurd (cc)
   found_is (Some x) m e = let same : x.0 ≡ m.0 = grind (arith, nat_tests) in own_same k k m x refl (sym same)
 
-  same_left : (found : Option LineId) (m : LineId) (p : Part) (y : Choice) → is_found found m.0 ≡ true → ((q : ℕ) → StoreNeed w (hart_at w c k) q p → q ≡ m.0) → OrStored found p y → IsWritten k found y
+  same_left : (found : Option LineId) (m : LineId) (p : Part) (y : Choice) → is_this found m.0 ≡ true → ((q : ℕ) → StoreNeed w (hart_at w c k) q p → q ≡ m.0) → OrStored found p y → IsWritten k found y
   same_left found m p y e one (IsThere d) = d
   same_left found m p y e one (IsStored l is need) = inr (subst (λ z. IsOwnOf k found z) (sym (is ∙ own_same k k l m refl (one l.0 need))) (found_is found m e))
 
-  pub same_store : (found : Option LineId) (m : LineId) (xs : List Choice) → IsNeeded (λ q p. FrontNeed w (hart_at w c k) q p) w c v found → IsNeeded (λ q p. StoreNeed w (hart_at w c k) q p) w c v (Some m) → is_found found m.0 ≡ true → HasListed w c v (IsWritten k found) xs → HasListed w c v (IsBelow 3 (k + 1)) xs
+  pub same_store : (found : Option LineId) (m : LineId) (xs : List Choice) → IsNeeded (λ q p. FrontNeed w (hart_at w c k) q p) w c v found → IsNeeded (λ q p. StoreNeed w (hart_at w c k) q p) w c v (Some m) → is_this found m.0 ≡ true → HasListed w c v (IsWritten k found) xs → HasListed w c v (IsBelow 3 (k + 1)) xs
   same_store found m xs front one e had =
       regraded w c v (IsWritten k found) (IsBelow 3 (k + 1)) xs had (λ y d. all_below found y d) (λ y p shows own able r. same_left found m p y e (one p shows).1 (sorted_out found p y front shows able r))
 
@@ -143,12 +143,12 @@ module _ (w : Config) (c k : ℕ) (v : PartsView) where
   not_same : (x m : LineId) → (x.0 == m.0) ≡ false → x ≢ m
   not_same x m e same = let f : x.0 ≡ m.0 = ap (λ (l : LineId). l.0) same in let t : (x.0 == m.0) ≡ true = grind (arith, nat_tests) in absurd (cc)
 
-  written_before : (found : Option LineId) (m : LineId) (p : Part) (y : Choice) → IsNeeded (λ q z. FrontNeed w (hart_at w c k) q z) w c v found → Shows w c v p → is_found found m.0 ≡ false → IsWritten k found y → IsBefore w c p y (choice.BusOwn k m)
+  written_before : (found : Option LineId) (m : LineId) (p : Part) (y : Choice) → IsNeeded (λ q z. FrontNeed w (hart_at w c k) q z) w c v found → Shows w c v p → is_this found m.0 ≡ false → IsWritten k found y → IsBefore w c p y (choice.BusOwn k m)
   written_before found m p y front shows e (inl d) = read_before p m y d
   written_before None m p y front shows e (inr r) = absurd r
   written_before (Some x) m p y front shows e (inr r) = subst (λ z. IsBefore w c p z (choice.BusOwn k m)) (sym r) (inr (refl, inr (refl, ((front p shows).0, not_same x m e))))
 
-  pub a_store : (found : Option LineId) (m : LineId) (old new : List Choice) → IsNeeded (λ q p. FrontNeed w (hart_at w c k) q p) w c v found → IsNeeded (λ q p. StoreNeed w (hart_at w c k) q p) w c v (Some m) → is_found found m.0 ≡ false
+  pub a_store : (found : Option LineId) (m : LineId) (old new : List Choice) → IsNeeded (λ q p. FrontNeed w (hart_at w c k) q p) w c v found → IsNeeded (λ q p. StoreNeed w (hart_at w c k) q p) w c v (Some m) → is_this found m.0 ≡ false
       → HasListed w c v (IsWritten k found) old → Offers w c v (choice.BusOwn k m) old new → HasListed w c v (IsBelow 3 (k + 1)) new
   a_store found m old new front one e had offers =
       one_more w c v (IsWritten k found) (IsBelow 3 (k + 1)) (choice.BusOwn k m) old new had offers (λ y d. all_below found y d) (inr (refl, omega arith))

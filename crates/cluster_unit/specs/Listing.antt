@@ -1,5 +1,5 @@
 -- What a list of choices has while it is made: just the enabled ones of a range that grows.
-use Rattle.std.specs.Prelude.{◌≡◌, ◌⊎◌, ℕ, ◌<◌, ◌==◌, Bool, false, Option, None, Some, List, [], ◌∷◌, ◌++◌, length, slice_index_or}
+use Rattle.std.specs.Prelude.{◌≡◌, ◌⊎◌, ℕ, ◌<◌, false, Option, None, Some, List, [], ◌∷◌, ◌++◌, length, slice_index_or}
 use Rattle.std.specs.List.{All, Contains}
 use Rattle.dash_base.specs.declared.id.LineId.{LineId}
 use Rattle.dash_model.specs.Config.{Config}
@@ -44,11 +44,6 @@ IsRead k x = IsBelow 3 k x ⊎ IsReadOf k x
 
 abbrev pub IsWritten : ℕ → Option LineId → Choice → Type 0
 IsWritten k found x = IsRead k x ⊎ IsOwnOf k found x
-
--- whether this line was found
-abbrev pub is_found : Option LineId → ℕ → Bool
-is_found None l = false
-is_found (Some m) l = m.0 == l
 
 -- the choice of a kind that goes by one number, and the kind's place
 abbrev pub choice_of : ByNumber → ℕ → Choice

@@ -3,11 +3,11 @@ ghost use Rattle.std.specs.Prelude.{◌≡◌, ◌+◌, ◌*◌, ◌<◌, ◌≤
 ghost use Rattle.dash_model.specs.Wants.{FrontNeed};
 ghost use Rattle.unit_rows.specs.LineNeeds.{IsNeeded};
 ghost use Rattle.unit_rows.specs.Shown.{config, shown, hart_at, AreSized};
-ghost use Rattle.cluster_unit.specs.Listing.{HasListed, IsBelow, IsRead, IsWritten, is_found};
+ghost use Rattle.cluster_unit.specs.Listing.{HasListed, IsBelow, IsRead, IsWritten};
 
 use crate::offers::offer;
 use dash_base::LineId;
-use unit_rows::{Choice, Parts, Site, needed_copy, needed_store, needed_write};
+use unit_rows::{Choice, Parts, Site, is_this, needed_copy, needed_store, needed_write};
 
 /// Lists the enabled choices of harts to get a line from their cluster, by hart: for its instruction,
 /// and then for its oldest store.
@@ -101,18 +101,8 @@ fn offer_store(
     let Some(line) = needed_store(site, parts, hart) else {
         return;
     };
-    if is_found(written, line) {
+    if is_this(written, line) {
         return;
     }
     offer(site, parts, Choice::BusOwn(hart, line), choices);
-}
-
-/// Whether this line was found.
-fn is_found(found: Option<LineId>, line: LineId) -> bool
-    ensures { result ≡ is_found found line.0 }
-{
-    match found {
-        Some(other) => other.0 == line.0,
-        None => false,
-    }
 }
