@@ -7,3 +7,9 @@ pub mod TakesListed
 pub mod Listed
 pub mod Turning
 pub mod EndsMet
+pub mod Listing
+pub mod InRange
+pub mod BusListing
+pub mod LockListing
+pub mod InTheWay
+pub mod EvictListing

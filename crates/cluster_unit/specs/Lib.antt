@@ -1,6 +1,8 @@
 pub mod Enabling
 pub mod Order
 pub mod Lists
+pub mod Listing
+pub mod Victims
 pub mod View
 pub mod Ends
 pub mod Core

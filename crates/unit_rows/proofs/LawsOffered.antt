@@ -7,3 +7,7 @@ pub use Rattle.unit_rows.proofs.Retiring.{one_local}
 pub use Rattle.unit_rows.proofs.AcksOn.{begun_in_range}
 pub use Rattle.unit_rows.proofs.OpeningStores.{opening_stores}
 pub use Rattle.unit_rows.proofs.Ready.{askers_go_on, stores_are_of_memory}
+pub use Rattle.unit_rows.proofs.RoomOn.{held_is}
+pub use Rattle.unit_rows.proofs.AgainRow.{not_refused}
+pub use Rattle.unit_rows.proofs.InstallFits.{not_come}
+pub use Rattle.unit_rows.proofs.LockWords.{own_of}

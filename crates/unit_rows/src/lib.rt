@@ -18,6 +18,7 @@ pub use loads::load;
 pub use lock_instructions::{ask, unlock};
 pub use lock_words::{free, grant, is_free};
 pub use messages::take;
+pub use needs::{is_this, needed_copy, needed_store, needed_write};
 pub use opening::opening_parts;
 pub use parts::{Local, Parts};
 pub use requests::{again, fits_again, fits_request, request};
