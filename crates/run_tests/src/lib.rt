@@ -1,7 +1,9 @@
-//! Tests of logs, of reports and of what a cluster opens with. A crate with tests is proved again with
-//! them, so they stand here, above all that they test.
+//! Tests of logs, of reports, of what a cluster opens with and of its atomic operations. A crate with
+//! tests is proved again with them, so they stand here, above all that they test.
 #![tactic(auto)]
 
+#[cfg(test)]
+mod atomics;
 #[cfg(test)]
 mod logs;
 #[cfg(test)]

@@ -26,10 +26,10 @@ const WORD: u32 = 0x06f0_0513;
 
 const CLUSTER: ClusterId = ClusterId(0);
 
-fn image(alloc: Global) -> Result<Image, Fail> {
+fn image(alloc: Global, word: u32) -> Result<Image, Fail> {
     let mut bytes = Vec::from_slice(alloc, &HEADERS)?;
     for _i in 0..8 {
-        bytes.extend_from_slice(&WORD.to_le_bytes())?;
+        bytes.extend_from_slice(&word.to_le_bytes())?;
     }
     let map = MemoryMap {
         base: 0,
@@ -38,10 +38,10 @@ fn image(alloc: Global) -> Result<Image, Fail> {
     Ok(load(alloc, &bytes, map)?)
 }
 
-/// The first of two clusters of two harts each.
-fn site(rt: &impl Abort, alloc: Global) -> Result<Site, Fail> {
+/// The first of two clusters of two harts each, which run eight times the same instruction.
+pub fn site(rt: &impl Abort, alloc: Global, word: u32) -> Result<Site, Fail> {
     let topology = Topology::simple(2, 2, 10)?;
-    let image = image(alloc)?;
+    let image = image(alloc, word)?;
     assert!(rt; CLUSTER.0 < topology.clusters);
     Ok(Site {
         image,
@@ -53,7 +53,7 @@ fn site(rt: &impl Abort, alloc: Global) -> Result<Site, Fail> {
 #[test]
 fn a_cluster_opens_with_its_harts_at_the_entry(rt: HostRuntime) -> Result<(), Fail> {
     let alloc = rt.alloc();
-    let site = site(&rt, alloc)?;
+    let site = site(&rt, alloc, WORD)?;
     let parts = opening_parts(alloc, &site)?;
     assert_eq!(rt; parts.locals.len(), 2);
     for local in &parts.locals {

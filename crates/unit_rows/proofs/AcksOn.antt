@@ -22,6 +22,12 @@ begun-acks w c t l =
 pub begun-elsewhere : (t : TableView) (l q : ℕ) → q ≢ l → entry_at (begun t l) q ≡ entry_at t q
 begun-elsewhere t l q apart = entry_at-with_entry t l fresh q ∙ ap (λ b. cond b (Some fresh) (entry_at t q)) (test_differ q l apart)
 
+pub begun_in_range : (t : TableView) (l n : ℕ) → l < n → ((q : ℕ) (e : Counted) → entry_at t q ≡ Some e → q < n) → (q : ℕ) (e : Counted) → entry_at (begun t l) q ≡ Some e → q < n
+begun_in_range t l n low in_range q e is = elim (same_or_not q l) [
+  | inl s ↦ subst (λ y. y < n) (sym s) low
+  | inr apart ↦ in_range q e (sym (begun-elsewhere t l q apart) ∙ is)
+]
+
 -- an entry that is owed to a hart too
 more_owed : (w : Config) (c k : ℕ) (e : Counted) → k < w.top.harts → with_member (hart_at w c k) (harts_by w c (owes e)) ≡ harts_by w c (owes (also_owed k e))
 more_owed w c k e low = with_member-harts_by w c k (owes e) low ∙ sym (harts_by-same w c (owes (also_owed k e)) (λ j. (j == k) || owes e j) (λ j below. owes-also_owed e k j))

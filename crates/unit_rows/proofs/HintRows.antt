@@ -1,5 +1,5 @@
 -- Hints: the row of one that opens no slot, of one that asks for a line to read, and of one that asks to own it.
-use Rattle.std.proofs.Common.{◌≡◌, ◌≢◌, ℕ, ◌+◌, ◌-◌, ◌/◌, ◌*◌, ◌%◌, ◌<◌, ◌≤◌, ◌&&◌, nat_le, not, Bool, true, false, Option, None, Some, [], ◌∷◌, refl, sym, ap, ◌∙◌, subst, inl, inr, arith}
+use Rattle.std.proofs.Common.{◌≡◌, ◌≢◌, ℕ, ◌+◌, ◌-◌, ◌/◌, ◌*◌, ◌%◌, ◌<◌, ◌≤◌, ◌&&◌, nat_le, not, Bool, true, false, Option, None, Some, [], ◌∷◌, refl, sym, ap, ◌∙◌, subst, arith}
 use Rattle.std.specs.Prelude.{MatchOption}
 use Rattle.std.proofs.lemmas.Bool.Decides.{nat_tests}
 use Rattle.dash_base.specs.Places.{line_count}
@@ -34,12 +34,12 @@ use Rattle.unit_rows.specs.Steps.{HartNeeds, changed_local, Retired}
 use Rattle.unit_rows.specs.SlotFits.{request_for}
 use Rattle.unit_rows.specs.Hints.{HintFits, OpensJust}
 use Rattle.unit_rows.specs.Rows.{DoesChoice}
-use Rattle.unit_rows.proofs.Same.{same_or_not, test_differ}
+use Rattle.unit_rows.proofs.Same.{test_differ}
 use Rattle.unit_rows.proofs.Lines.{shows_line}
 use Rattle.unit_rows.proofs.BusTurns.{with_line}
 use Rattle.unit_rows.proofs.SlotsOn.{slot_opened, slot_elsewhere}
 use Rattle.unit_rows.proofs.SlotTurns.{slot_turns, sized_slots}
-use Rattle.unit_rows.proofs.AcksOn.{begun-acks, begun-elsewhere}
+use Rattle.unit_rows.proofs.AcksOn.{begun-acks, begun-elsewhere, begun_in_range}
 use Rattle.unit_rows.proofs.HintFits.{slot_is_shown, opens_shown}
 use Rattle.unit_rows.proofs.Retiring.{effect, plain_step}
 
@@ -175,7 +175,5 @@ pub room_for : (w : Config) (v : PartsView) (address n : ℕ) → HintFits w v E
 room_for w v address n f = let two = and_both (not (is_some (owner_at v.bus (line_at w address)))) (has_room v.acks) f.opens.kinds in let t = two.1 in grind (arith, nat_tests)
 
 pub begun_range : (w : Config) (c address n : ℕ) (line : LineId) (v : PartsView) → line ≡ line_id (line_at w address) → AreSized w c v → HintFits w v Exclusive address n → (q : ℕ) (e : Counted) → entry_at (begun v.acks line.0) q ≡ Some e → q < line_count w.top
-begun_range w c address n line v is sized f q e at = elim (same_or_not q line.0) [
-  | inl same ↦ subst (λ i. i < line_count w.top) (sym same) (subst (λ (i : LineId). i.0 < line_count w.top) (sym is) (line_in w.top.base w.top.memory address f.inside w.top.memory_in_pages))
-  | inr apart ↦ sized.acks_in_range q e (sym (begun-elsewhere v.acks line.0 q apart) ∙ at)
-]
+begun_range w c address n line v is sized f =
+    begun_in_range v.acks line.0 (line_count w.top) (subst (λ (i : LineId). i.0 < line_count w.top) (sym is) (line_in w.top.base w.top.memory address f.inside w.top.memory_in_pages)) sized.acks_in_range

@@ -29,6 +29,7 @@ pub mod StateM
 pub mod NoInstruction
 pub mod OneHart
 pub mod Sized
+pub mod Rewrites
 pub mod CommitRow
 pub mod CommitFits
 pub mod SlotMet
@@ -55,4 +56,6 @@ pub mod EvictRow
 pub mod EvictTold
 pub mod Resting
 pub mod AskRow
+pub mod AtomicRows
+pub mod AtomicTold
 pub mod LawsOffered

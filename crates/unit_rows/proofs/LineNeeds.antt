@@ -100,15 +100,15 @@ unless : (b : Bool) (l m : LineId) → cond b None (Some m) ≡ Some l → (b �
 unless true l m e = absurd (cc)
 unless false l m e = (refl, (let same : m ≡ l = cc in same))
 
-reserved_is : (r : Option WordAddr) (word : WordAddr) → is_reserved r word ≡ true → reserved_by r ≡ Some word.0
+pub reserved_is : (r : Option WordAddr) (word : WordAddr) → is_reserved r word ≡ true → reserved_by r ≡ Some word.0
 reserved_is None word e = absurd (cc)
 reserved_is (Some a) word e = ap Some (is_same a.0 word.0 e)
 
-is_reserved_by : (r : Option WordAddr) (word : WordAddr) → reserved_by r ≡ Some word.0 → is_reserved r word ≡ true
+pub is_reserved_by : (r : Option WordAddr) (word : WordAddr) → reserved_by r ≡ Some word.0 → is_reserved r word ≡ true
 is_reserved_by None word e = absurd (cc)
 is_reserved_by (Some a) word e = let same : a.0 ≡ word.0 = cc in ap (λ y. y == word.0) same ∙ test_same word.0
 
-not_false : (b : Bool) → not b ≡ false → b ≡ true
+pub not_false : (b : Bool) → not b ≡ false → b ≡ true
 not_false true e = refl
 not_false false e = absurd (cc)
 

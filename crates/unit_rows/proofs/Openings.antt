@@ -5,10 +5,11 @@ use Rattle.std.proofs.lemmas.Bool.Decides.{nat_tests}
 use Rattle.remote_cache.proofs.LawsOffered.{lines_have_one_slot}
 use Rattle.dash_base.specs.Places.{first_prefetch}
 use Rattle.write_buffer.specs.View.{BufferView}
-use Rattle.snoop_bus.specs.View.{BusView, empty_bus, holding_at, in_hart_l1}
-use Rattle.snoop_bus.proofs.LawsOffered.{holding_at-empty_bus, in_hart_l1-empty_bus}
-use Rattle.remote_cache.specs.View.{SlotsView, empty_slots, is_of, slot_of, slot_at}
-use Rattle.ack_counter.specs.View.{entry_at}
+use Rattle.snoop_bus.specs.View.{BusView, empty_bus, holding_at, in_hart_l1, harts as bus_harts}
+use Rattle.snoop_bus.proofs.LawsOffered.{holding_at-empty_bus, in_hart_l1-empty_bus, harts-empty_bus}
+use Rattle.remote_cache.specs.View.{SlotsView, empty_slots, is_of, slot_of, slot_at, count as slot_count}
+use Rattle.ack_counter.specs.View.{TableView, entry_at}
+use Rattle.ack_counter.specs.Steps.{empty_table}
 use Rattle.ack_counter.proofs.LawsOffered.{entry_at-empty_table}
 use Rattle.directory.specs.View.{HomeView, is_home, kept_at, kept_in}
 use Rattle.directory.specs.Opening as home
@@ -19,7 +20,7 @@ use Rattle.dash_model.specs.Config.{Config}
 use Rattle.dash_model.specs.Cell.{NoSlot}
 use Rattle.dash_model.specs.Part.{opening_part}
 use Rattle.unit_rows.specs.declared.parts.Local.{Local}
-use Rattle.unit_rows.specs.Shown.{PartsView, hart_at, copy_by, slot_in, slot_on, acks_by, home_by, lock_by, reserved_by, ShowsHart, Shows}
+use Rattle.unit_rows.specs.Shown.{PartsView, hart_at, copy_by, slot_in, slot_on, acks_by, home_by, lock_by, reserved_by, ShowsHart, Shows, AreSized}
 use Rattle.unit_rows.specs.Opening.{AreOpening, IsOpeningLocal, IsOpening}
 use Rattle.unit_rows.proofs.Same.{same_or_not}
 
@@ -64,6 +65,45 @@ opening_shows w c v o = record {
   acks = λ l. sym (ap (acks_by w c) (ap (λ t. entry_at t l) o.acks ∙ entry_at-empty_table w.top.acks l));
   homes = λ l own. home_opening w l ∙ ap (home_by w) (sym (kept_opening w c v.home l o.home own));
   locks = λ i own. sym (ap lock_by (lock_opening w c v.locks i o.locks own));
+}
+
+-- and they have the sizes of the topology
+empty_l1 : (n l1 l2 : ℕ) → (empty_bus n l1 l2).l1_lines ≡ l1
+unfolding empty_bus
+empty_l1 n l1 l2 = refl
+
+empty_l2 : (n l1 l2 : ℕ) → (empty_bus n l1 l2).l2_lines ≡ l2
+unfolding empty_bus
+empty_l2 n l1 l2 = refl
+
+empty_capacity : (n : ℕ) → (empty_table n).capacity ≡ n
+unfolding empty_table
+empty_capacity n = refl
+
+pub opening_sized : (w : Config) (c : ℕ) (v : PartsView) → IsOpening w c v → AreSized w c v
+opening_sized w c v o = record {
+  locals = o.locals.count;
+  buffers = λ k d low. ap (λ (b : BufferView). b.capacity) (o.locals.each k d low).buffer;
+  bus_harts = ap bus_harts o.bus ∙ harts-empty_bus w.top.harts w.top.l1 w.top.l2;
+  l1 = ap (λ (b : BusView). b.l1_lines) o.bus ∙ empty_l1 w.top.harts w.top.l1 w.top.l2;
+  l2 = ap (λ (b : BusView). b.l2_lines) o.bus ∙ empty_l2 w.top.harts w.top.l1 w.top.l2;
+  slot_harts = ap (λ (s : SlotsView). s.harts) o.slots;
+  slot_count = ap slot_count o.slots ∙ length-replicate (first_prefetch w.top.harts + w.top.prefetch) None;
+  slots_in_range = λ n s is.
+      let none : slot_at v.slots n ≡ None = ap (λ (y : SlotsView). slot_at y n) o.slots ∙ past_or_in w.top.harts (first_prefetch w.top.harts + w.top.prefetch) n (nat_lt n (first_prefetch w.top.harts + w.top.prefetch)) refl in
+      let bad : None ≡ Some s = sym none ∙ is in
+      absurd (cc);
+  acks = ap (λ (t : TableView). t.capacity) o.acks ∙ empty_capacity w.top.acks;
+  acks_in_range = λ l e is.
+      let bad : None ≡ Some e = sym (ap (λ t. entry_at t l) o.acks ∙ entry_at-empty_table w.top.acks l) ∙ is in
+      absurd (cc);
+  home_cluster = o.home.cluster_is;
+  home_clusters = o.home.clusters_is;
+  home_lines = o.home.lines_is;
+  lock_cluster = o.locks.cluster_is;
+  lock_clusters = o.locks.clusters_is;
+  lock_words = o.locks.locks_is;
+  lock_harts = o.locks.harts_is;
 }
 
 -- one hart more

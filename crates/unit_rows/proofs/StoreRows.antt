@@ -75,7 +75,7 @@ pub put_done : {A B : Type 0} (r : Result A B) (L P : Type 0) → (IsOk r ↔ L)
 put_done (Ok x) L P fits put low = put
 put_done (Err x) L P fits put low = absurd (cc (fits.1 low))
 
-one_access : (a b : Access) → Some a ≡ Some b → a ≡ b
+pub one_access : (a b : Access) → Some a ≡ Some b → a ≡ b
 one_access a b e = cc
 
 pub does_store : (w : Config) (c k n mask value : ℕ) (g : HartId) (word : WordAddr) (a : Access) (v : PartsView) (x : Local) (core : HartState) (b : BufferView)

@@ -12,6 +12,7 @@ pub mod Held
 pub mod CommitFits
 pub mod Replies
 pub mod LineNeeds
+pub mod AtomicFits
 pub mod BusFits
 pub mod SlotFits
 pub mod Giving

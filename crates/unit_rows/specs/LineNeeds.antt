@@ -35,9 +35,13 @@ abbrev pub is_reserved : Option WordAddr → WordAddr → Bool
 is_reserved None word = false
 is_reserved (Some a) word = a.0 == word.0
 
+-- whether an operation is an SC whose word is not reserved, which fails
+abbrev pub fails : AmoOp → Option WordAddr → WordAddr → Bool
+fails op r word = is_sc op && not (is_reserved r word)
+
 -- the line that an instruction writes to at once, where an SC has reserved its word
 abbrev pub write_line : Config → Option WordAddr → Need → Option LineId
-write_line w r (Rmw word op operand labels) = cond (is_sc op && not (is_reserved r word)) None (Some (line_of w.top word))
+write_line w r (Rmw word op operand labels) = cond (fails op r word) None (Some (line_of w.top word))
 write_line w r need = None
 
 -- the line of a store, if there is one

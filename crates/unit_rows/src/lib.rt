@@ -5,9 +5,10 @@
 //! the part that they show afterwards, and sends what is handed back. Where the answer is none, no event
 //! of that choice may happen. No call but `opening_parts` takes memory.
 //!
-//! Not here yet: atomic operations that write, and the first asking of a slot.
+//! Not here yet: the first asking of a slot.
 #![tactic(auto)]
 
+pub use atomics::atomic;
 pub use bus::{bus_own, bus_read, fits_bus_own, fits_bus_read};
 pub use choice::Choice;
 pub use commits::{commit, fits_commit};
@@ -23,8 +24,9 @@ pub use opening::opening_parts;
 pub use parts::{Local, Parts};
 pub use requests::{again, fits_again};
 pub use site::Site;
-pub use stores::{sc_fail, store};
+pub use stores::store;
 
+mod atomics;
 mod burst;
 mod bus;
 mod choice;

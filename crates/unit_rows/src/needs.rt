@@ -2,7 +2,7 @@
 ghost use Rattle.std.specs.Prelude.{◌≡◌, ◌<◌, IsTrue, false};
 ghost use Rattle.dash_model.specs.Part.{Part};
 ghost use Rattle.dash_model.specs.Wants.{NeedsCopy, FrontNeed, StoreNeed, NeedsOwn};
-ghost use Rattle.unit_rows.specs.LineNeeds.{load_line, is_sc, is_reserved, write_line, store_line, is_this, IsNeeded};
+ghost use Rattle.unit_rows.specs.LineNeeds.{load_line, is_sc, is_reserved, fails, write_line, store_line, is_this, IsNeeded};
 ghost use Rattle.unit_rows.specs.Shown.{config, shown, hart_at, Shows, AreSized};
 
 use crate::held::{holds, owns_alone};
@@ -103,14 +103,21 @@ fn write_line(site: &Site, reserved: Option<WordAddr>, need: &Need) -> Option<Li
     let Need::Rmw { word, op, .. } = need else {
         return None;
     };
-    if is_sc(*op) && !is_reserved(reserved, *word) {
+    if fails(*op, reserved, *word) {
         return None;
     }
     Some(site.topology.line_of(*word))
 }
 
+/// Whether an operation is an SC whose word is not reserved, which fails.
+pub fn fails(op: AmoOp, reserved: Option<WordAddr>, word: WordAddr) -> bool
+    ensures { result ≡ fails op reserved word }
+{
+    is_sc(op) && !is_reserved(reserved, word)
+}
+
 /// Whether an operation is SC.
-fn is_sc(op: AmoOp) -> bool
+pub fn is_sc(op: AmoOp) -> bool
     ensures { result ≡ is_sc op }
 {
     matches!(op, AmoOp::Sc)
