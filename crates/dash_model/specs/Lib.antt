@@ -49,3 +49,4 @@ pub mod TableHome
 pub mod TableMessages
 pub mod TableLocks
 pub mod RunLaws
+pub mod LocalHarts

@@ -27,10 +27,10 @@ copy_some : (o : Option Holding) → is_some (copy_in o) ≡ is_some o
 copy_some None = refl
 copy_some (Some h) = refl
 
-copy_there : (w : Config) (c l : ℕ) (v : PartsView) (p : Part) → Shows w c v p → has_copy (p.cells l).copy ≡ is_some (copy_of v.bus l)
+pub copy_there : (w : Config) (c l : ℕ) (v : PartsView) (p : Part) → Shows w c v p → has_copy (p.cells l).copy ≡ is_some (copy_of v.bus l)
 copy_there w c l v p s = ap has_copy (s.copies l) ∙ has-copy_by w c (holding_at v.bus l) ∙ sym (copy_some (holding_at v.bus l))
 
-owner_there : (w : Config) (c l : ℕ) (v : PartsView) (p : Part) → Shows w c v p → has_owner (p.cells l).copy ≡ is_some (owner_at v.bus l)
+pub owner_there : (w : Config) (c l : ℕ) (v : PartsView) (p : Part) → Shows w c v p → has_owner (p.cells l).copy ≡ is_some (owner_at v.bus l)
 owner_there w c l v p s = ap has_owner (s.copies l) ∙ has_owner-copy_by w c (holding_at v.bus l)
 
 flipped : (b : Bool) → not b ≡ true → b ≡ false

@@ -56,6 +56,9 @@ pub mod EvictRow
 pub mod EvictTold
 pub mod Resting
 pub mod AskRow
+pub mod LinesInside
+pub mod AskCauses
+pub mod AskTold
 pub mod AtomicRows
 pub mod AtomicTold
 pub mod LawsOffered

@@ -48,7 +48,7 @@ unfound : (o : Option Stored) (mask : ℕ) → look_by o mask ≡ NoStore → o 
 unfound None mask e = refl
 unfound (Some x) mask e = absurd (found_if (covers x.mask mask) x e)
 
-by_look : (w : Config) (word : WordAddr) (l : LineId) (look : Look) → line_by w word look ≡ Some l → (look ≡ NoStore) × (line_at w word.0 ≡ l.0)
+pub by_look : (w : Config) (word : WordAddr) (l : LineId) (look : Look) → line_by w word look ≡ Some l → (look ≡ NoStore) × (line_at w word.0 ≡ l.0)
 by_look w word l NoStore e = let same : line_id (line_at w word.0) ≡ l = cc in (refl, ap (λ (x : LineId). x.0) same)
 by_look w word l (Hit x n) e = absurd (cc)
 by_look w word l Wait e = absurd (cc)
@@ -63,7 +63,7 @@ loads_line w q s (Load word mask labels true) f = ap (λ o. line_by w word (look
 loads_line w q s (Load word mask labels false) f = ap (line_by w word) f.1 ∙ ap (λ n. Some (line_id n)) f.0
 loads_line w q s need f = absurd f
 
-loads_something : (w : Config) (es : List Stored) (l : LineId) (need : Need) → load_line w es need ≡ Some l → need ≢ Rest
+pub loads_something : (w : Config) (es : List Stored) (l : LineId) (need : Need) → load_line w es need ≡ Some l → need ≢ Rest
 loads_something w es l need e i = absurd (let t : load_line w es need ≡ None = ap (load_line w es) i in cc)
 
 -- what a hart that needs a copy tells of the code's hart
@@ -96,7 +96,7 @@ copy_is_held w c k v x need l low sized here next line holds p shows q n =
     absurd (cc)
 
 -- an atomic operation
-unless : (b : Bool) (l m : LineId) → cond b None (Some m) ≡ Some l → (b ≡ false) × (m ≡ l)
+pub unless : (b : Bool) (l m : LineId) → cond b None (Some m) ≡ Some l → (b ≡ false) × (m ≡ l)
 unless true l m e = absurd (cc)
 unless false l m e = (refl, (let same : m ≡ l = cc in same))
 
@@ -125,7 +125,7 @@ writes_line w q s r (Rmw word amo.Sc operand labels) res f = ap (λ b. cond (not
 writes_line w q s r (Rmw word op operand labels) res f = ap (λ n. Some (line_id n)) f
 writes_line w q s r need res f = absurd f
 
-writes_something : (w : Config) (r : Option WordAddr) (l : LineId) (need : Need) → write_line w r need ≡ Some l → need ≢ Rest
+pub writes_something : (w : Config) (r : Option WordAddr) (l : LineId) (need : Need) → write_line w r need ≡ Some l → need ≢ Rest
 writes_something w r l need e i = absurd (let t : write_line w r need ≡ None = ap (write_line w r) i in cc)
 
 write_told : (w : Config) (c k : ℕ) (v : PartsView) (p : Part) (x : Local) (need : Need) → k < w.top.harts → AreSized w c v → x ≡ slice_index_or v.locals k x → IsNext w.image w.top x.core need → Shows w c v p → (q : ℕ) → FrontNeed w (hart_at w c k) q p → write_line w x.reserved need ≡ Some (line_id q)

@@ -4,8 +4,6 @@
 //! that something was done, its event may happen on each part of the machine that the parts show, makes
 //! the part that they show afterwards, and sends what is handed back. Where the answer is none, no event
 //! of that choice may happen. No call but `opening_parts` takes memory.
-//!
-//! Not here yet: the first asking of a slot.
 #![tactic(auto)]
 
 pub use atomics::atomic;
@@ -22,13 +20,14 @@ pub use lock_words::{free, grant, is_free};
 pub use messages::take;
 pub use opening::opening_parts;
 pub use parts::{Local, Parts};
-pub use requests::{again, fits_again};
+pub use requests::{again, fits_again, fits_request, request};
 pub use site::Site;
 pub use stores::store;
 
 mod atomics;
 mod burst;
 mod bus;
+mod causes;
 mod choice;
 mod commits;
 mod evictions;

@@ -1,7 +1,9 @@
 //! Which line a hart needs: for its instruction, to read it or to own it, or for its oldest store.
-ghost use Rattle.std.specs.Prelude.{◌≡◌, ◌<◌, IsTrue, false};
+ghost use Rattle.std.specs.Prelude.{◌≡◌, ◌<◌, IsTrue, false, IfSome};
+ghost use Rattle.dash_base.specs.Places.{line_count};
 ghost use Rattle.dash_model.specs.Part.{Part};
 ghost use Rattle.dash_model.specs.Wants.{NeedsCopy, FrontNeed, StoreNeed, NeedsOwn};
+ghost use Rattle.unit_rows.specs.AskFits.{StoresAreOfMemory};
 ghost use Rattle.unit_rows.specs.LineNeeds.{load_line, is_sc, is_reserved, fails, write_line, store_line, is_this, IsNeeded};
 ghost use Rattle.unit_rows.specs.Shown.{config, shown, hart_at, Shows, AreSized};
 
@@ -15,7 +17,8 @@ use write_buffer::{Buffer, Look};
 pub fn needed_copy(site: &Site, parts: &Parts, hart: u32) -> Option<LineId>
     requires sized { AreSized (config site.now) site.now.cluster.0 (shown parts.now) }
     requires hart { hart < site.now.topology.harts }
-    ensures { IsNeeded (λ q p. NeedsCopy (config site.now) (hart_at (config site.now) site.now.cluster.0 hart) q p) (config site.now) site.now.cluster.0 (shown parts.now) result }
+    ensures needed { IsNeeded (λ q p. NeedsCopy (config site.now) (hart_at (config site.now) site.now.cluster.0 hart) q p) (config site.now) site.now.cluster.0 (shown parts.now) result }
+    ensures inside { IfSome result (λ line. line.0 < line_count site.now.topology) }
 {
     let local = &parts.locals[hart as usize];
     let need = local.core.next(&site.image, &site.topology);
@@ -31,7 +34,8 @@ pub fn needed_copy(site: &Site, parts: &Parts, hart: u32) -> Option<LineId>
 pub fn needed_write(site: &Site, parts: &Parts, hart: u32) -> Option<LineId>
     requires sized { AreSized (config site.now) site.now.cluster.0 (shown parts.now) }
     requires hart { hart < site.now.topology.harts }
-    ensures { IsNeeded (λ q p. FrontNeed (config site.now) (hart_at (config site.now) site.now.cluster.0 hart) q p) (config site.now) site.now.cluster.0 (shown parts.now) result }
+    ensures needed { IsNeeded (λ q p. FrontNeed (config site.now) (hart_at (config site.now) site.now.cluster.0 hart) q p) (config site.now) site.now.cluster.0 (shown parts.now) result }
+    ensures inside { IfSome result (λ line. line.0 < line_count site.now.topology) }
 {
     parts.bus.keeps_one_map();
     let local = &parts.locals[hart as usize];
@@ -47,7 +51,8 @@ pub fn needed_write(site: &Site, parts: &Parts, hart: u32) -> Option<LineId>
 pub fn needed_store(site: &Site, parts: &Parts, hart: u32) -> Option<LineId>
     requires sized { AreSized (config site.now) site.now.cluster.0 (shown parts.now) }
     requires hart { hart < site.now.topology.harts }
-    ensures { IsNeeded (λ q p. StoreNeed (config site.now) (hart_at (config site.now) site.now.cluster.0 hart) q p) (config site.now) site.now.cluster.0 (shown parts.now) result }
+    ensures needed { IsNeeded (λ q p. StoreNeed (config site.now) (hart_at (config site.now) site.now.cluster.0 hart) q p) (config site.now) site.now.cluster.0 (shown parts.now) result }
+    ensures inside { StoresAreOfMemory (config site.now) (shown parts.now) → IfSome result (λ line. line.0 < line_count site.now.topology) }
 {
     parts.bus.keeps_one_map();
     let local = &parts.locals[hart as usize];

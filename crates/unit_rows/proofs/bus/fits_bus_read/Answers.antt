@@ -5,7 +5,7 @@ use Rattle.unit_rows.proofs.bus.fits_bus_read.Goals as goal
 
 pub returns-then-not-is_this-clause-idle : goal.returns-then-not-is_this-clause-idle
 returns-then-not-is_this-clause-idle c = λ t.
-    other_line (config c.args.site.now) c.args.site.now.cluster.0 c.args.hart (shown c.args.parts.now) c.args.line c.needed_copy.result c.needed_copy.ensures (this_missing c.needed_copy.result c.args.line (sym c.is_this.ensures ∙ c.if-not-is_this.true))
+    other_line (config c.args.site.now) c.args.site.now.cluster.0 c.args.hart (shown c.args.parts.now) c.args.line c.needed_copy.result c.needed_copy.ensures.needed (this_missing c.needed_copy.result c.args.line (sym c.is_this.ensures ∙ c.if-not-is_this.true))
 
 pub returns-then-is_none-clause-idle : goal.returns-then-is_none-clause-idle
 returns-then-is_none-clause-idle c = λ t.
@@ -13,7 +13,7 @@ returns-then-is_none-clause-idle c = λ t.
 
 pub returns-clause-fits : goal.returns-clause-fits
 returns-clause-fits c = λ t. record {
-  needs = copy_for (config c.args.site.now) c.args.site.now.cluster.0 c.args.hart (shown c.args.parts.now) c.args.line c.needed_copy.result c.needed_copy.ensures (this_found c.needed_copy.result c.args.line (sym c.is_this.ensures ∙ c.if-not-is_this.false));
+  needs = copy_for (config c.args.site.now) c.args.site.now.cluster.0 c.args.hart (shown c.args.parts.now) c.args.line c.needed_copy.result c.needed_copy.ensures.needed (this_found c.needed_copy.result c.args.line (sym c.is_this.ensures ∙ c.if-not-is_this.false));
   copy = λ none. some_by_test c.peek.result c.is_none.result c.is_none.ensures c.if-is_none.false (c.peek.ensures ∙ none);
   room = c.room.ensures.0 t;
 }

@@ -3,19 +3,24 @@ use Rattle.dash_model.specs.Wants.{StoreNeed}
 use Rattle.unit_rows.specs.LineNeeds.{IsNeeded}
 use Rattle.unit_rows.specs.Shown.{config, shown, hart_at}
 use Rattle.unit_rows.proofs.LineNeeds.{store_needed, store_unneeded, store_in_m}
+use Rattle.unit_rows.proofs.LinesInside.{store_inside}
 use Rattle.unit_rows.proofs.needs.needed_store.Goals as goal
 
-pub returns-in_err-line : goal.returns-in_err-line
-returns-in_err-line c =
+pub returns-in_err-line-clause-needed : goal.returns-in_err-line-clause-needed
+returns-in_err-line-clause-needed c =
     let w = config c.args.site.now in
     let k = c.args.site.now.cluster.0 in
     subst (λ r. IsNeeded (λ q p. StoreNeed w (hart_at w k c.args.hart) q p) w k (shown c.args.parts.now) r) (sym c.from_residual.ensures)
     (store_unneeded w k c.args.hart (shown c.args.parts.now) c.index-local.result.now c.requires.hart c.requires.sized c.index-local.ensures (sym c.store_line.ensures ∙ c.in_err-line.was))
 
-pub returns-then-owns_alone : goal.returns-then-owns_alone
-returns-then-owns_alone c =
+pub returns-then-owns_alone-clause-needed : goal.returns-then-owns_alone-clause-needed
+returns-then-owns_alone-clause-needed c =
     store_in_m (config c.args.site.now) c.args.site.now.cluster.0 c.args.hart (shown c.args.parts.now) c.index-local.result.now c.in_ok-line.line c.requires.hart c.requires.sized c.keeps_one_map.ensures c.index-local.ensures (sym c.store_line.ensures ∙ c.in_ok-line.was) (sym c.owns_alone.ensures ∙ c.if-owns_alone.true)
 
-pub returns : goal.returns
-returns c =
+pub returns-clause-needed : goal.returns-clause-needed
+returns-clause-needed c =
     store_needed (config c.args.site.now) c.args.site.now.cluster.0 c.args.hart (shown c.args.parts.now) c.index-local.result.now c.in_ok-line.line c.requires.hart c.requires.sized c.keeps_one_map.ensures c.index-local.ensures (sym c.store_line.ensures ∙ c.in_ok-line.was) (sym c.owns_alone.ensures ∙ c.if-owns_alone.false)
+
+pub returns-clause-inside : goal.returns-clause-inside
+returns-clause-inside c = λ stores.
+    store_inside (config c.args.site.now) c.args.hart (shown c.args.parts.now) c.index-local.result.now c.in_ok-line.line c.requires.hart c.index-local.ensures (sym c.store_line.ensures ∙ c.in_ok-line.was) stores

@@ -11,7 +11,7 @@ returns-then-other c =
     let v = shown c.args.parts.now in
     let found = c.needed_store-found.result in
     then_so (Tells w k v c.args.line.0 (CanStore w (hart_at w k c.args.hart))) (is_other w found c.args.line.0) (owner_found v.bus found) c.owner_found-owned.result
-    (tells_store w k c.args.hart c.args.line.0 v found c.needed_store-found.ensures) (sym c.is_other-other.ensures ∙ c.if-other.true) c.owner_found-owned.ensures
+    (tells_store w k c.args.hart c.args.line.0 v found c.needed_store-found.ensures.needed) (sym c.is_other-other.ensures ∙ c.if-other.true) c.owner_found-owned.ensures
 
 pub returns-else-other : goal.returns-else-other
 returns-else-other c =
@@ -20,4 +20,4 @@ returns-else-other c =
     let v = shown c.args.parts.now in
     let found = c.needed_store-found.result in
     else_not (Tells w k v c.args.line.0 (CanStore w (hart_at w k c.args.hart))) (is_other w found c.args.line.0) (owner_found v.bus found) c.is_other-other.result
-    (tells_store w k c.args.hart c.args.line.0 v found c.needed_store-found.ensures) c.is_other-other.ensures c.if-other.false
+    (tells_store w k c.args.hart c.args.line.0 v found c.needed_store-found.ensures.needed) c.is_other-other.ensures c.if-other.false
