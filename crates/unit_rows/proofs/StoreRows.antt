@@ -128,7 +128,7 @@ sc_by w c k n operand g word labels v x core e low sized needs is number unreser
   };
 }
 
-none_of : {A : Type 0} (o : Option A) → is_some o ≡ false → o ≡ None
+pub none_of : {A : Type 0} (o : Option A) → is_some o ≡ false → o ≡ None
 none_of None e = refl
 none_of (Some x) e = absurd (cc)
 
