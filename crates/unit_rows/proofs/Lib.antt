@@ -61,4 +61,7 @@ pub mod AskCauses
 pub mod AskTold
 pub mod AtomicRows
 pub mod AtomicTold
+pub mod CanLines
+pub mod CanSteps
+pub mod OutOfRange
 pub mod LawsOffered
