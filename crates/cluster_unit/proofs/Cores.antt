@@ -8,6 +8,7 @@ use Rattle.std.specs.Vec.{with_items}
 use Rattle.dash_base.specs.declared.id.ClusterId.{ClusterId}
 use Rattle.dash_msg.specs.Classes.{class_of}
 use Rattle.dash_msg.specs.declared.classes.Class.{Class}
+use Rattle.dash_msg.specs.declared.classes.Class.TheVariants.{Request, Reply}
 use Rattle.dash_msg.specs.declared.parcel.Parcel.{Parcel}
 use Rattle.dash_msg.specs.declared.parcel.Sent.{Sent}
 use Rattle.dash_event.specs.declared.event.Event.{Event}
@@ -16,20 +17,22 @@ use Rattle.dash_event.specs.declared.event.Kind.TheVariants as kind
 use Rattle.mesh_lanes.specs.View.{OutletView, InletView}
 use Rattle.dash_model.specs.Maps.{raised, most}
 use Rattle.dash_model.specs.Config.{Config}
-use Rattle.dash_model.specs.Net.{Packet, packet}
+use Rattle.dash_model.specs.Net.{Packet, lane, packet}
 use Rattle.dash_model.specs.Part.{Part, opening_part}
 use Rattle.dash_model.specs.Machine.{taken, stamp_of, next_stamp}
-use Rattle.dash_model.specs.LocalRun.{part_at}
+use Rattle.dash_model.specs.LocalRun.{part_at, sent_in, received_in}
 use Rattle.unit_rows.specs.declared.choice.Choice.{Choice}
 use Rattle.unit_rows.specs.declared.choice.Choice.TheVariants as choice
 use Rattle.unit_rows.specs.Choices.{IsOf}
-use Rattle.unit_rows.specs.Shown.{PartsView, Shows, AreSized}
+use Rattle.unit_rows.specs.Shown.{PartsView, hart_at, Shows, AreSized}
+use Rattle.unit_rows.specs.Opening.{IsOpening}
+use Rattle.unit_rows.specs.declared.parts.Local.{Local}
 use Rattle.unit_rows.specs.Rows.{Does, Cannot, DoesChoice}
 use Rattle.unit_rows.specs.Local.{IsLocal, event_at}
-use Rattle.unit_rows.proofs.LawsOffered.{local_more}
+use Rattle.unit_rows.proofs.LawsOffered.{local_more, opening_shows, opening_sized}
 use Rattle.cluster_unit.specs.Enabling.{is_take}
 use Rattle.cluster_unit.specs.View.{CoreView}
-use Rattle.cluster_unit.specs.Ends.{place, AllOfClass, Carry, AreOfClass, Brought, Sends, HaveSpare}
+use Rattle.cluster_unit.specs.Ends.{place, parcels, AllOfClass, Carry, AreOfClass, Brought, Sends, HaveSpare}
 use Rattle.cluster_unit.specs.Core.{HasRun, IsAt, IsCore}
 use Rattle.cluster_unit.specs.Turns.{IsIdle, SameOutlets, Happened, OthersStay, Received}
 use Rattle.cluster_unit.specs.Messages.{Took}
@@ -226,3 +229,50 @@ received v z a stamp at from j q e ss log vec lent outlets inlets ins borrowed d
           (subst (λ n. (slice_index_or inlets n x).received ≡ (slice_index_or a.inlets n x).received ++ q ∷ []) at_is (subst (λ os. (slice_index_or inlets at x).received ≡ (slice_index_or os at x).received ++ q ∷ []) borrowed_is (got x)));
       others = subst (OthersStay (place from.0 j) a.inlets) (sym back) (subst (λ n. OthersStay n a.inlets inlets) at_is (subst (λ os. OthersStay at os inlets) borrowed_is others));
     }
+
+-- a hart as the parts have it is the hart of the part
+pub hart_is : (v : PartsView) (last : ℕ) (a : CoreView) (capacity n : ℕ) (x : Local) (p : Part) → IsCore v last a capacity → n < a.config.top.harts → x ≡ slice_index_or v.locals n x → IsAt a p
+    → ((p.harts (hart_at a.config a.cluster n)).core ≡ x.core) × ((p.harts (hart_at a.config a.cluster n)).asked ≡ x.asked)
+hart_is v last a capacity n x p k low is at =
+    let s = (shows_at v last a capacity p k at).harts n x low in
+    (s.core ∙ ap (λ (y : Local). y.core) (sym is), s.asked ∙ ap (λ (y : Local). y.asked) (sym is))
+
+-- no parcels are of no packets
+no_parcels : (a b : ℕ) (k : Class) → parcels a b k [] ≡ []
+unfolding lane
+no_parcels a b k = refl
+
+-- a place among the ends of n clusters
+within : (n d : ℕ) (k : Class) → d < n → place d k < 2 * n
+within n d Request low = grind arith
+within n d Reply low = grind arith
+
+-- a run that has not begun sent and took nothing
+sent_none : (w : Config) (c : ℕ) → sent_in w c (opening_part w) [] ≡ []
+unfolding sent_in
+sent_none w c = refl
+
+received_none : (c : ℕ) → received_in c [] ≡ []
+unfolding received_in
+received_none c = refl
+
+-- a core at the start
+pub opened : (w : Config) (c : ℕ) (v : PartsView) (outlets : List OutletView) (inlets : List InletView) (log : List Event) (capacity : ℕ) → c < w.top.clusters → IsOpening w c v
+    → length outlets ≡ 2 * w.top.clusters → length inlets ≡ 2 * w.top.clusters
+    → ((j : ℕ) (x : OutletView) → j < length outlets → (slice_index_or outlets j x).sent ≡ []) → ((j : ℕ) (x : InletView) → j < length inlets → (slice_index_or inlets j x).received ≡ [])
+    → log ≡ []
+    → IsCore v 0 (record { config = w; cluster = c; log = log; outlets = outlets; inlets = inlets; reserved = 0 }) capacity
+opened w c v outlets inlets log capacity mine opening count_out count_in unsent untaken log_is = rw log_is (record {
+  sent = [];
+  received = [];
+  local = record { history = []; events = refl; ran = tt; shows = opening_shows w c v opening; last_is = refl; sent_is = sent_none w c; received_is = received_none c };
+  carry = λ d k x low. unsent (place d k) x (subst (λ n. place d k < n) (sym count_out) (within w.top.clusters d k low)) ∙ sym (no_parcels c d k);
+  brought = λ honest f k x low. untaken (place f k) x (subst (λ n. place f k < n) (sym count_in) (within w.top.clusters f k low)) ∙ sym (no_parcels f c k);
+  sized = opening_sized w c v opening;
+  mine = mine;
+  outlets = count_out;
+  inlets = count_in;
+  spare = λ j x low. grind arith;
+  room = grind arith;
+  short = grind arith;
+})

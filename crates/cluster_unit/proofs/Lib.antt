@@ -1,4 +1,7 @@
 pub mod Lanes
 pub mod Sending
 pub mod OnePart
+pub mod Looking
 pub mod Cores
+pub mod TakesListed
+pub mod Listed

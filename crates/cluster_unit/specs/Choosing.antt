@@ -1,5 +1,5 @@
 -- The choices that a unit lists, and the one that it does.
-use Rattle.std.specs.Prelude.{◌≡◌, ◌≢◌, ℕ, ◌%◌, ◌<◌, false, List, [], ◌∷◌, length, slice_index_or}
+use Rattle.std.specs.Prelude.{◌≡◌, ℕ, ◌<◌, ◌≤◌, List, [], ◌∷◌, length, slice_index_or}
 use Rattle.std.specs.List.{Contains}
 use Rattle.dash_base.specs.declared.id.ClusterId.{ClusterId}
 use Rattle.dash_msg.specs.declared.classes.Class.{Class}
@@ -10,7 +10,6 @@ use Rattle.unit_rows.specs.declared.choice.Choice.TheVariants.{Take}
 use Rattle.unit_rows.specs.Rows.{Enabled}
 use Rattle.cluster_unit.specs.declared.turn.Turn.{Turn}
 use Rattle.cluster_unit.specs.declared.turn.Turn.TheVariants.{Did, Idle}
-use Rattle.cluster_unit.specs.Enabling.{is_take}
 use Rattle.cluster_unit.specs.View.{CoreView}
 use Rattle.cluster_unit.specs.Ends.{place, Looked}
 use Rattle.cluster_unit.specs.Order.{AreInOrder}
@@ -37,7 +36,7 @@ pub record Lists (a b : CoreView) (choices : List Choice) : Type 0 where
 
 -- what a choice does
 abbrev pub Performed : Choice → Turn → CoreView → CoreView → Type 0
-Performed (Take from k) t a b = TookFrom from k t a b
+Performed (Take from k) t a b = (from.0 < a.config.top.clusters → TookFrom from k t a b) × (a.config.top.clusters ≤ from.0 → (t ≡ Idle) × (b ≡ spent a))
 Performed x t a b = Acted x t a b
 
 -- a turn: the choices are listed, and where there is any, the one of this number is done

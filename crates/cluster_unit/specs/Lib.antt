@@ -6,4 +6,7 @@ pub mod Ends
 pub mod Core
 pub mod Turns
 pub mod Messages
+pub mod Reserving
 pub mod Choosing
+pub mod Takes
+pub mod Acting

@@ -12,5 +12,6 @@ use Rattle.cluster_unit.specs.Order.{AreInOrder}
 -- just the choices that are enabled, but for those to take a message; each once, in their order
 pub record ListsOwn (w : Config) (c : ℕ) (v : PartsView) (choices : List Choice) : Type 0 where
   pub just : All (Can w c v) choices
+  pub own : All (λ x. is_take x ≡ false) choices
   pub whole : (x : Choice) (p : Part) → Shows w c v p → is_take x ≡ false → Enabled w c x p → Contains choices x
   pub ordered : (p : Part) → Shows w c v p → AreInOrder w c p choices

@@ -67,6 +67,7 @@ pub record Received (from : ClusterId) (k : Class) (a b : CoreView) : Type 0 whe
 -- the lane showed none, and nothing happened
 pub record ShowsNone (from : ClusterId) (k : Class) (a b : CoreView) : Type 0 where
   pub none : (x : InletView) → (slice_index_or b.inlets (place from.0 k) x).known ≡ []
+  pub before : (x : InletView) → (slice_index_or a.inlets (place from.0 k) x).known ≡ []
   pub received : (x : InletView) → (slice_index_or b.inlets (place from.0 k) x).received ≡ (slice_index_or a.inlets (place from.0 k) x).received
   pub others : OthersStay (place from.0 k) a.inlets b.inlets
   pub same : b ≡ record a { inlets = b.inlets; reserved = a.reserved - 1 }

@@ -73,6 +73,7 @@ pub fn take_at(inlets: &mut [Inlet], at: usize) -> Option<Parcel>
     ensures some { IfSome result (λ q. (x : InletView) → (slice_index_or inlets.new at x).received ≡ (slice_index_or inlets.old at x).received ++ q ∷ []) }
     ensures next { IfSome result (λ q. (x : InletView) → IsPrefix (slice_index_or inlets.old at x).known (q ∷ (slice_index_or inlets.new at x).known)) }
     ensures none { IfNone result ((x : InletView) → (slice_index_or inlets.new at x).known ≡ []) }
+    ensures before { IfNone result ((x : InletView) → (slice_index_or inlets.old at x).known ≡ []) }
     ensures same { IfNone result ((x : InletView) → (slice_index_or inlets.new at x).received ≡ (slice_index_or inlets.old at x).received) }
 {
     inlets[at].take()

@@ -1,6 +1,8 @@
 //! The events of a unit's core.
 ghost use Rattle.std.specs.Prelude.{◌≡◌, ◌<◌, false};
 ghost use Rattle.cluster_unit.specs.Enabling.{is_take};
+ghost use Rattle.unit_rows.specs.declared.choice.Choice.TheVariants.{Take};
+ghost use Rattle.cluster_unit.specs.Choosing.{Performed};
 ghost use Rattle.cluster_unit.specs.Turns.{spent, Acted, TookFrom};
 
 use crate::act::act;
@@ -20,6 +22,39 @@ impl Core {
         ensures { self.new ≡ spent self.old }
     {
         self.reserved -= 1;
+    }
+
+    /// Does a choice. `Idle` where it is not enabled; and of a choice to take a message, where the lane
+    /// shows none in this call, or there is no such lane.
+    pub fn perform(&mut self, choice: Choice) -> Turn
+        requires { 0 < self.old.reserved }
+        ensures { Performed choice result self.old self.new }
+    {
+        match choice {
+            Choice::Take(from, class) => self.take_any(from, class),
+            Choice::Step(_)
+            | Choice::Commit(_)
+            | Choice::BusRead(..)
+            | Choice::BusOwn(..)
+            | Choice::Evict(..)
+            | Choice::Ask(_)
+            | Choice::Again(_)
+            | Choice::Install(_)
+            | Choice::Grant(_) => self.act(choice),
+        }
+    }
+
+    /// Takes the next message of the lane of a class from a cluster. `Idle` where the lane shows none, or
+    /// the machine has no such cluster.
+    fn take_any(&mut self, from: ClusterId, class: Class) -> Turn
+        requires { 0 < self.old.reserved }
+        ensures { Performed (Take from class) result self.old self.new }
+    {
+        if from.0 >= self.site.topology.clusters {
+            self.spend();
+            return Turn::Idle;
+        }
+        self.take(from, class)
     }
 
     /// Does a choice, other than to take a message. `Idle` where it is not enabled.

@@ -5,11 +5,15 @@ pub use turn::Turn;
 pub use unit_core::Core;
 
 mod act;
+mod answers;
 mod enabled;
 mod ends;
 mod events;
 mod list;
+mod listing;
 mod messages;
+mod reserve;
 mod step;
+mod takes;
 mod turn;
 mod unit_core;

@@ -1,5 +1,6 @@
 //! The choices of a cluster, in their order.
 ghost use Rattle.std.specs.Prelude.{◌≡◌, ◌≤◌, [], length, vec_len, vec_capacity};
+ghost use Rattle.unit_rows.specs.AskFits.{StoresAreOfMemory};
 ghost use Rattle.unit_rows.specs.Shown.{config, shown, AreSized};
 ghost use Rattle.cluster_unit.specs.Lists.{ListsOwn};
 
@@ -12,6 +13,7 @@ pub const MOST_CHOICES: usize = 2_048;
 /// memory.
 pub fn list_own(site: &Site, parts: &Parts, choices: &mut Vec<Choice>)
     requires sized { AreSized (config site.now) site.now.cluster.0 (shown parts.now) }
+    requires stores { StoresAreOfMemory (config site.now) (shown parts.now) }
     requires room { 2048 ≤ vec_capacity choices.old }
     ensures lists { ListsOwn (config site.now) site.now.cluster.0 (shown parts.now) choices.new.items }
     ensures room { vec_capacity choices.new ≡ vec_capacity choices.old }

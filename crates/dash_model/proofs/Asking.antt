@@ -17,14 +17,14 @@ use Rattle.dash_model.proofs.LockFacts.{one_each, cases_apply}
 use Rattle.dash_model.proofs.InRuns.{in_runs}
 
 -- where it was sent the hart's next instruction is a lock instruction
-abbrev AsksFirst : Config → Processor → Type 0
+abbrev pub AsksFirst : Config → Processor → Type 0
 AsksFirst w s = s.asked ≡ true → NeedsLock w s.core
 
 -- what a hart does is what it needs
 does_lock : (w : Config) (s t : HartState) (need : Need) (x : ℕ) → Does w.image w.top s need x t → NeedsLock w s → IsLock need
 does_lock w s t need x d k = subst IsLock (sym (one_need w.image w.top s need k.need (needs_of w.image w.top s t need x d) k.needs)) k.lock
 
-asks_first : (w : Config) (e : Kind) (h : ℕ) (s t : Processor) → HartStep w e h s t → AsksFirst w s → AsksFirst w t
+pub asks_first : (w : Config) (e : Kind) (h : ℕ) (s t : Processor) → HartStep w e h s t → AsksFirst w s → AsksFirst w t
 asks_first w e h s t (Rests i c a) k sent = subst (NeedsLock w) (sym c) (k (sym a ∙ sent))
 asks_first w e h s t (Works i n x d u a) k sent = absurd (u (does_lock w s.core t.core n x d (k (sym a ∙ sent))))
 asks_first w e h s t (Sends i j c a b n) k sent = subst (NeedsLock w) (sym c) n

@@ -1,5 +1,6 @@
 -- The lemmas that the crates above use. Nothing else of these proofs is imported across crates.
 pub use Rattle.dash_model.proofs.Local.{local_runs_grow}
+pub use Rattle.dash_model.proofs.LocalHarts.{local_runs_keep_harts}
 pub use Rattle.dash_model.proofs.RunsAdmissible.{runs_are_admissible}
 pub use Rattle.dash_model.proofs.Effects.{row_same}
 pub use Rattle.dash_model.proofs.Lanes.{lane-append}

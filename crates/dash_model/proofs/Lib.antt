@@ -111,4 +111,5 @@ pub mod ExampleTrapping
 pub mod Examples
 pub mod RunsRelease
 pub mod RunsAdmissible
+pub mod LocalHarts
 pub mod LawsOffered

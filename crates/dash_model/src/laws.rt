@@ -4,6 +4,7 @@ ghost use Rattle.dash_model.specs.Cases.{CasesApply};
 ghost use Rattle.dash_model.specs.Examples.{ExampleRuns};
 ghost use Rattle.dash_model.specs.History.{VersionsStayBelowGreatest};
 ghost use Rattle.dash_model.specs.LineFacts.{RunsKeepLines};
+ghost use Rattle.dash_model.specs.LocalHarts.{LocalRunsKeepHarts};
 ghost use Rattle.dash_model.specs.LockFacts.{MessagesAreInRange, LinesAreOfMemory, RunsKeepLocks, LocksAreCounted, LockUsesAreNumbered};
 ghost use Rattle.dash_model.specs.MachineLaws.{EventsFixEffects, LanesAreQueues, StepsChangeOnePart, StampsRise, CommitsAreNumbered, EventsHappen, LocalRunsGrow, MergesAreRuns};
 ghost use Rattle.dash_model.specs.OwedFacts.{RunsOweAsLogged};
@@ -148,6 +149,12 @@ pub fn every_row_happens()
 /// A local run goes on with any step that its part allows, and adds what that step sends and takes.
 pub fn local_runs_grow()
     ensures { LocalRunsGrow }
+{}
+
+/// A local run keeps its harts, whatever its lanes bring: a hart whose lock instruction was sent has a lock
+/// instruction as its next one, so it goes on, and each store that waits is to a word of memory.
+pub fn local_runs_keep_harts()
+    ensures { LocalRunsKeepHarts }
 {}
 
 /// Where clusters run by themselves, each takes from its lanes what the others sent, and stamps stay

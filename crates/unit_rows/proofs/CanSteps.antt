@@ -40,19 +40,15 @@ use Rattle.unit_rows.proofs.AtomicRows.{kept, written_access, atomic_as}
 use Rattle.unit_rows.proofs.AtomicTold.{needs_sc, fails_unreserved}
 use Rattle.unit_rows.proofs.CanLines.{can_by}
 use Rattle.unit_rows.proofs.HintFits.{slot_is_shown}
-use Rattle.unit_rows.proofs.LineNeeds.{next_is, next_needs}
+use Rattle.unit_rows.proofs.LineNeeds.{next_is}
 use Rattle.unit_rows.proofs.LoadRows.{Read, does_stored, does_held}
 use Rattle.unit_rows.proofs.LockSends.{does_ask, does_unlock}
 use Rattle.unit_rows.proofs.PlainSteps.{does_alu, does_put, does_stop, does_fence}
-use Rattle.unit_rows.proofs.Retiring.{effect, one_local, retired_from, plain_step}
+use Rattle.unit_rows.proofs.Retiring.{effect, retired_from, plain_step}
 use Rattle.unit_rows.proofs.Same.{same_or_not}
 use Rattle.unit_rows.proofs.StoreRows.{store_by, sc_by}
 
--- the hart that was read needs what it needs next
-pub hart_needs : (w : Config) (c k : ℕ) (v : PartsView) (x : Local) (need : Need) → k < w.top.harts → AreSized w c v → x ≡ slice_index_or v.locals k x → IsNext w.image w.top x.core need → need ≢ needed.Rest → HartNeeds w v k need
-hart_needs w c k v x need low sized is next apart = λ d.
-    subst (λ (y : Local). Needs w.image w.top y.core need) (sym (one_local v k x (subst (λ n. k < n) (sym sized.locals) low) is d)) (next_needs w.image w.top x.core need next apart)
-
+-- what the hart that was read needs
 here : (w : Config) (k : ℕ) (v : PartsView) (x : Local) (need : Need) → x ≡ slice_index_or v.locals k x → HartNeeds w v k need → Needs w.image w.top x.core need
 here w k v x need is n = subst (λ (y : Local). Needs w.image w.top y.core need) (sym is) (n x)
 

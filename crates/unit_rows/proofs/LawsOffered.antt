@@ -6,5 +6,8 @@ pub use Rattle.unit_rows.proofs.LineNeeds.{next_needs}
 pub use Rattle.unit_rows.proofs.Retiring.{one_local}
 pub use Rattle.unit_rows.proofs.AcksOn.{begun_in_range}
 pub use Rattle.unit_rows.proofs.CanLines.{can_commit, can_read, can_own, can_evict, can_install, can_ask, can_again, can_grant}
-pub use Rattle.unit_rows.proofs.CanSteps.{hart_needs, can_alu, can_put, can_stop, can_fence, can_hint, can_load, can_store, can_atomic, can_lock, can_unlock}
+pub use Rattle.unit_rows.proofs.CanSteps.{can_alu, can_put, can_stop, can_fence, can_hint, can_load, can_store, can_atomic, can_lock, can_unlock}
 pub use Rattle.unit_rows.proofs.OutOfRange.{far_step, far_commit, far_read, far_own, far_evict, past_ask, past_again, past_install}
+pub use Rattle.unit_rows.proofs.OpeningStores.{opening_stores}
+pub use Rattle.unit_rows.proofs.Ready.{askers_go_on, stores_are_of_memory}
+pub use Rattle.unit_rows.proofs.Resting.{rest_cannot, needs_now}

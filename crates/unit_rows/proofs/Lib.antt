@@ -64,4 +64,6 @@ pub mod AtomicTold
 pub mod CanLines
 pub mod CanSteps
 pub mod OutOfRange
+pub mod OpeningStores
+pub mod Ready
 pub mod LawsOffered

@@ -38,7 +38,7 @@ slot_none : (v : SlotsView) (l : ℕ) (o : Option ℕ) → ((n : ℕ) → slot_a
 slot_none v l None none is = refl
 slot_none v l (Some n) none is = absurd (let has = lines_have_one_slot.has_line v l n is in let no : is_of l (slot_at v n) ≡ false = ap (is_of l) (none n) in cc)
 
-past_or_in : (h n i : ℕ) (b : Bool) → nat_lt i n ≡ b → slot_at (empty_slots h n) i ≡ None
+pub past_or_in : (h n i : ℕ) (b : Bool) → nat_lt i n ≡ b → slot_at (empty_slots h n) i ≡ None
 past_or_in h n i true low = get_or-replicate n i None None (let e : i < n = grind (arith, nat_tests) in e)
 past_or_in h n i false high = get_or_past (replicate n None) i None (let e : n ≤ i = grind (arith, nat_tests) in subst (λ y. y ≤ i) (sym (length-replicate n None)) e)
 

@@ -9,9 +9,11 @@ pub loop-sent-init : goal.loop-sent-init
 loop-sent-init c = (sends_none c.args.clusters c.args.stamp c.args.outlets.now, grind arith)
 
 pub loop-sent-preserved : goal.loop-sent-preserved
-loop-sent-preserved c =
-    (subst (λ ss. Sends c.args.clusters c.args.stamp ss c.args.outlets.now c.send.new.outlets) (sym (take_more c.args.messages.now c.loop-sent.sent-index _ c.loop-sent-test.true))
-    (sends_more c.args.clusters c.args.stamp (take c.loop-sent.sent-index c.args.messages.now) _ c.args.outlets.now c.loop-sent.outlets c.send.new.outlets c.loop-sent.invariant.0 c.send.ensures), grind arith)
+loop-sent-preserved c = (
+  subst (λ ss. Sends c.args.clusters c.args.stamp ss c.args.outlets.now c.send.new.outlets) (sym (take_more c.args.messages.now c.loop-sent.sent-index _ c.loop-sent-test.true))
+      (sends_more c.args.clusters c.args.stamp (take c.loop-sent.sent-index c.args.messages.now) _ c.args.outlets.now c.loop-sent.outlets c.send.new.outlets c.loop-sent.invariant.0 c.send.ensures),
+  grind arith,
+)
 
 pub send-requires-clause-spare : goal.send-requires-clause-spare
 send-requires-clause-spare c j x low =

@@ -3,6 +3,7 @@ use Rattle.std.proofs.lemmas.List.{with_items_is}
 use Rattle.std.specs.Vec.{with_items}
 use Rattle.mesh_lanes.specs.View.{InletView}
 use Rattle.unit_rows.specs.Shown.{shown}
+use Rattle.unit_rows.proofs.LawsOffered.{askers_go_on}
 use Rattle.cluster_unit.specs.Ends.{Sends}
 use Rattle.cluster_unit.specs.View.{CoreView}
 use Rattle.cluster_unit.specs.Turns.{Received}
@@ -16,7 +17,7 @@ invariant_of-self c =
     c.deref_mut.ensures.value c.deref_mut.ensures.len c.place.ensures c.take_at.ensures.others c.in_default.ensures.same
 
 pub take_message-kind-requires-clause-asked : goal.take_message-kind-requires-clause-asked
-take_message-kind-requires-clause-asked c = ?
+take_message-kind-requires-clause-asked c = askers_go_on _ _ (shown c.self.inside.parts) c.self.inside.log.items c.self.inside.last c.self.invariant.sent c.self.invariant.received c.self.invariant.local
 
 pub invariant_of-self-2 : goal.invariant_of-self-2
 invariant_of-self-2 c =
