@@ -5,3 +5,5 @@ pub mod Looking
 pub mod Cores
 pub mod TakesListed
 pub mod Listed
+pub mod Fitting
+pub mod ByChoice

@@ -12,6 +12,7 @@ mod events;
 mod list;
 mod listing;
 mod messages;
+mod range;
 mod reserve;
 mod step;
 mod takes;
