@@ -41,7 +41,7 @@ pub returns-in-Ask-clause-inside : goal.returns-in-Ask-clause-inside
 returns-in-Ask-clause-inside c = λ t. subst (IsInRange (config c.args.site.now) (shown c.args.parts.now)) (sym c.in-Ask.is) (let n = c.count.ensures in grind (arith, nat_tests))
 
 pub returns-in-Ask-clause-outside : goal.returns-in-Ask-clause-outside
-returns-in-Ask-clause-outside c = λ f own. cannot_other (config c.args.site.now) c.args.site.now.cluster.0 c.args.choice _ (shown c.args.parts.now) c.in-Ask.is (past_ask (config c.args.site.now) c.args.site.now.cluster.0 c.in-Ask.slot (shown c.args.parts.now) c.requires (let n = c.count.ensures in grind (arith, nat_tests)))
+returns-in-Ask-clause-outside c = λ f own. cannot_other (config c.args.site.now) c.args.site.now.cluster.0 c.args.choice _ (shown c.args.parts.now) c.in-Ask.is (past_ask (config c.args.site.now) c.args.site.now.cluster.0 c.in-Ask.slot (shown c.args.parts.now) c.requires.sized (let n = c.count.ensures in grind (arith, nat_tests)))
 
 pub returns-in-Again-clause-inside : goal.returns-in-Again-clause-inside
 returns-in-Again-clause-inside c = λ t. subst (IsInRange (config c.args.site.now) (shown c.args.parts.now)) (sym c.in-Again.is) (let n = c.count-in-Again.ensures in grind (arith, nat_tests))
@@ -53,4 +53,4 @@ pub returns-in-Install-clause-inside : goal.returns-in-Install-clause-inside
 returns-in-Install-clause-inside c = λ t. subst (IsInRange (config c.args.site.now) (shown c.args.parts.now)) (sym c.in-Install.is) (let n = c.count-in-Install.ensures in grind (arith, nat_tests))
 
 pub returns-in-Install-clause-outside : goal.returns-in-Install-clause-outside
-returns-in-Install-clause-outside c = λ f own. cannot_other (config c.args.site.now) c.args.site.now.cluster.0 c.args.choice _ (shown c.args.parts.now) c.in-Install.is (past_install (config c.args.site.now) c.args.site.now.cluster.0 c.in-Install.slot (shown c.args.parts.now) c.requires (let n = c.count-in-Install.ensures in grind (arith, nat_tests)))
+returns-in-Install-clause-outside c = λ f own. cannot_other (config c.args.site.now) c.args.site.now.cluster.0 c.args.choice _ (shown c.args.parts.now) c.in-Install.is (past_install (config c.args.site.now) c.args.site.now.cluster.0 c.in-Install.slot (shown c.args.parts.now) c.requires.sized (let n = c.count-in-Install.ensures in grind (arith, nat_tests)))
