@@ -13,3 +13,5 @@ pub mod BusListing
 pub mod LockListing
 pub mod InTheWay
 pub mod EvictListing
+pub mod Fitting
+pub mod ByChoice

@@ -13,3 +13,4 @@ pub mod Choosing
 pub mod Takes
 pub mod Meeting
 pub mod Picking
+pub mod Acting
