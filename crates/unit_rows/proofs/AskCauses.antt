@@ -22,7 +22,7 @@ use Rattle.unit_rows.proofs.HintFits.{copy_there, owner_there}
 use Rattle.unit_rows.proofs.LineNeeds.{unless}
 
 -- a hart of the cluster by its number there
-local_is : (w : Config) (c h : ℕ) → cluster_of w h ≡ c → front_slot w c h < w.top.harts
+pub local_is : (w : Config) (c h : ℕ) → cluster_of w h ≡ c → front_slot w c h < w.top.harts
 local_is w c h mine =
     let some : 0 < w.top.harts = w.top.harts_in_range.low in
     subst (λ y. h - y * w.top.harts < w.top.harts) mine (subst (λ y. y < w.top.harts) (mod-eq-sub-div-mul h w.top.harts) (mod-lt h some))
@@ -33,7 +33,7 @@ hart_is w c n h mine is =
     let far : n ≡ h - c * w.top.harts = is in
     omega arith
 
-slot_is : (w : Config) (c k : ℕ) → k ≡ front_slot w c (hart_at w c k)
+pub slot_is : (w : Config) (c k : ℕ) → k ≡ front_slot w c (hart_at w c k)
 slot_is w c k = omega arith
 
 -- the causes of a front slot, and of a store slot; a prefetch slot has none

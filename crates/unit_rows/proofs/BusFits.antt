@@ -32,10 +32,10 @@ unfolding Guard
 own_guard w c k l p (kind.BusOwn g line) d is guard = subst (λ y. OwnInTable w c y l.0 p) is.0 (subst (λ (y : LineId). OwnInTable w c g.0 y.0 p) is.1 guard)
 own_guard w c k l p e d is guard = absurd is
 
-read_told : (w : Config) (c k : ℕ) (l : LineId) (p : Part) → Enabled w c (BusRead k l) p → ReadInTable w c (hart_at w c k) l.0 p
+pub read_told : (w : Config) (c k : ℕ) (l : LineId) (p : Part) → Enabled w c (BusRead k l) p → ReadInTable w c (hart_at w c k) l.0 p
 read_told w c k l p able = read_guard w c k l p able.event able.done able.is_of able.guard
 
-own_told : (w : Config) (c k : ℕ) (l : LineId) (p : Part) → Enabled w c (BusOwn k l) p → OwnInTable w c (hart_at w c k) l.0 p
+pub own_told : (w : Config) (c k : ℕ) (l : LineId) (p : Part) → Enabled w c (BusOwn k l) p → OwnInTable w c (hart_at w c k) l.0 p
 own_told w c k l p able = own_guard w c k l p able.event able.done able.is_of able.guard
 
 -- BusRead: another line is needed, or none; there is no copy; there is no room

@@ -9,6 +9,7 @@ use Rattle.dash_event.specs.declared.event.Kind.TheVariants as kind
 use Rattle.dash_model.specs.Config.{Config, hart_id, line_id, home_of}
 use Rattle.dash_model.specs.Part.{Part}
 use Rattle.dash_model.specs.LineEffect.{has_copy, has_owner}
+use Rattle.dash_model.specs.LineGuards.{BusOwnFits as InTable}
 use Rattle.dash_model.specs.Guard.{Guard}
 use Rattle.dash_model.specs.Row.{row}
 use Rattle.dash_model.specs.Acts.{BusRead as Joins, BusOwn as Takes, act_row, bus_read, bus_own}
@@ -94,6 +95,14 @@ pub sized_read : (w : Config) (c k l : ℕ) (v : PartsView) (b : BusView) → Ar
 sized_read w c k l v b sized b_is = subst (λ y. AreSized w c (with_line v v.locals y v.slots v.acks)) (sym b_is) (sized_bus w c v v.locals nobody l (joined_by k (holding_at v.bus l)) sized (same_sizes w v.locals))
 
 -- BusOwn
+pub own_fits : (w : Config) (c k l : ℕ) (v : PartsView) (p : Part) → k < w.top.harts → AreSized w c v → BusOwnFits w c v k l → Shows w c v p → InTable w c (hart_at w c k) l p
+own_fits w c k l v p low sized f shows = record {
+  mine = cluster_is w c k low;
+  need = f.needs p shows;
+  owner = ap has_owner (shows.copies l) ∙ has_owner-copy_by w c (holding_at v.bus l) ∙ there (owner_at v.bus l) f.owner;
+  room = room_table w c v p k l low sized shows f.room;
+}
+
 own_shown : (w : Config) (c k l : ℕ) (v : PartsView) (locals : List Local) (p : Part) → k < w.top.harts → AreSized w c v → IsOneMap v.bus → BusOwnFits w c v k l → AreSwept w l (holders_at v.bus l) (holders_in (owned_by k (holding_at v.bus l))) v.locals locals → Shows w c v p
     → Happens w c (kind.BusOwn (hart_id (hart_at w c k)) (line_id l)) (no_instruction w) (with_line v locals (after_bus_own v.bus k l) v.slots v.acks) [] p
 unfolding Guard row
@@ -103,12 +112,7 @@ own_shown w c k l v locals p low sized map f are shows =
     let copy : bus_own (hart_at w c k) (p.cells l).copy ≡ copy_by w c o = ap (bus_own (hart_at w c k)) (shows.copies l) ∙ owned-copy_by w c k (holding_at v.bus l) low owner in
     let d = act_row (line_id l) (home_of w l) (Takes (hart_at w c k)) (p.cells l) (p.homes l) in
     record {
-      guard = record {
-        mine = cluster_is w c k low;
-        need = f.needs p shows;
-        owner = ap has_owner (shows.copies l) ∙ has_owner-copy_by w c (holding_at v.bus l) ∙ owner;
-        room = room_table w c v p k l low sized shows f.room;
-      };
+      guard = own_fits w c k l v p low sized f shows;
       shows = shows_line w c v (with_line v locals (after_bus_own v.bus k l) v.slots v.acks) p l d shows
           (bus_turns w c v p l d (all_but k) o locals shows
           (harts_swept w c v p l (all_but k) o (bus_own (hart_at w c k) (p.cells l).copy) locals sized.locals sized.bus_harts map shows (alone_leave w v.bus k l o (owned_alone k (holding_at v.bus l) owner)) copy are)

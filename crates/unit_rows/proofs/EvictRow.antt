@@ -43,7 +43,7 @@ leaves_by : (w : Config) (c k l : ℕ) (v : PartsView) (p : Part) → Shows w c 
 leaves_by w c k l v p shows (inl e) = inl (shows.acks l ∙ not_pending w c (entry_at v.acks l) e)
 leaves_by w c k l v p shows (inr e) = inr (ap (is_owner (hart_at w c k)) (shows.copies l) ∙ is_owner-copy_by w c k (holding_at v.bus l) ∙ e)
 
-fits : (w : Config) (c k l : ℕ) (v : PartsView) (p : Part) → k < w.top.harts → EvictFits w c v k l → Shows w c v p → InTable w c (hart_at w c k) l p
+pub fits : (w : Config) (c k l : ℕ) (v : PartsView) (p : Part) → k < w.top.harts → EvictFits w c v k l → Shows w c v p → InTable w c (hart_at w c k) l p
 fits w c k l v p low f shows =
     let o = f.other p shows in
     record { mine = cluster_is w c k low; holder = held_is w c v p k l low shows ∙ f.holder; other = o.other; differs = o.differs; index = o.index; wants = o.is_so; may_leave = leaves_by w c k l v p shows f.may_leave }

@@ -39,7 +39,7 @@ unfolding Guard
 evict_guard w c k l p (kind.Evict g line) d is guard = subst (λ y. InTable w c y l.0 p) is.0 (subst (λ (y : LineId). InTable w c g.0 y.0 p) is.1 guard)
 evict_guard w c k l p e d is guard = absurd is
 
-told : (w : Config) (c k : ℕ) (l : LineId) (p : Part) → Enabled w c (Evict k l) p → InTable w c (hart_at w c k) l.0 p
+pub told : (w : Config) (c k : ℕ) (l : LineId) (p : Part) → Enabled w c (Evict k l) p → InTable w c (hart_at w c k) l.0 p
 told w c k l p able = evict_guard w c k l p able.event able.done able.is_of able.guard
 
 pub not_held : (w : Config) (c k : ℕ) (v : PartsView) (l : LineId) → k < w.top.harts → is_holder v.bus k l.0 ≡ false → Cannot w c v (Evict k l)

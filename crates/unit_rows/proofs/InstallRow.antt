@@ -14,7 +14,7 @@ use Rattle.dash_model.specs.Cell.{Came, Slot, NoSlot, Reads, Owns, Held, Cell, H
 use Rattle.dash_model.specs.Part.{Processor, Part}
 use Rattle.dash_model.specs.LineEffect.{LineEffect}
 use Rattle.dash_model.specs.HartRows.{PartEffect, unreserved, change, kept, on_line, acts, install}
-use Rattle.dash_model.specs.LineGuards.{HasCome}
+use Rattle.dash_model.specs.LineGuards.{HasCome, InstallFits as InTable}
 use Rattle.dash_model.specs.Guard.{Guard}
 use Rattle.dash_model.specs.Row.{row}
 use Rattle.dash_model.specs.Acts.{Install as Installs, act_row, install_row}
@@ -89,6 +89,18 @@ line_shown w c n v s d x locals q low one map sized f are slot shows =
     copy (sym (slot_closed w c v.slots n l low one (on_line_of v.slots n s f.at))) (λ m apart. slot_elsewhere w c v.slots n m None (off_line_of v.slots n m s f.at apart) refl)
     (shows.acks l) (λ m apart. refl) refl))
 
+slot_has : (w : Config) (c n : ℕ) (v : PartsView) (s : Request) (d : Line) (p : Part) → IsOnePerLine v.slots.slots → InstallFits w v n s d → Shows w c v p → (p.cells s.line.0).slot ≡ has_come s.own n (hart_at w c s.hart) d
+slot_has w c n v s d p one f shows =
+    let t = hart_at w c s.hart in
+    shows.slots s.line.0 ∙ slot_is w c v.slots s.line.0 n one (on_line_of v.slots n s f.at) ∙ ap (slot_by w c n) f.at ∙ ap (λ y. cond s.own (Owns n t (phase_by y)) (Reads n t (phase_by y))) f.came
+
+pub fits : (w : Config) (c n : ℕ) (v : PartsView) (s : Request) (d : Line) (p : Part) → IsOnePerLine v.slots.slots → AreSized w c v → InstallFits w v n s d → Shows w c v p → InTable w c n (hart_at w c s.hart) s.line.0 p
+fits w c n v s d p one sized f shows = record {
+  mine = cluster_is w c s.hart f.local;
+  came = subst (HasCome n (hart_at w c s.hart)) (sym (slot_has w c n v s d p one f shows)) (guarded n (hart_at w c s.hart) d s.own);
+  room = room_table w c v p s.hart s.line.0 f.local sized shows f.room;
+}
+
 install_shown : (w : Config) (c n : ℕ) (v : PartsView) (s : Request) (d : Line) (x : Local) (locals : List Local) (p : Part) → n < slot_count v.slots → IsOnePerLine v.slots.slots → IsOneMap v.bus → AreSized w c v → InstallFits w v n s d
     → x ≡ slice_index_or v.locals s.hart x → AreSwept w s.line.0 (holders_at v.bus s.line.0) (holders_in (bus.held_by s.hart d s.own)) (slice_set v.locals s.hart (swept w s.line.0 (clears v s) x)) locals → Shows w c v p
     → Happens w c (kind.Install n (hart_id (hart_at w c s.hart)) s.line) (no_instruction w) (after v n s d locals) [] p
@@ -96,8 +108,7 @@ unfolding Guard row
 install_shown w c n v s d x locals p low one map sized f here are shows =
     let l = s.line.0 in
     let t = hart_at w c s.hart in
-    let slot : (p.cells l).slot ≡ has_come s.own n t d =
-    shows.slots l ∙ slot_is w c v.slots l n one (on_line_of v.slots n s f.at) ∙ ap (slot_by w c n) f.at ∙ ap (λ y. cond s.own (Owns n t (phase_by y)) (Reads n t (phase_by y))) f.came in
+    let slot : (p.cells l).slot ≡ has_come s.own n t d = slot_has w c n v s d p one f shows in
     let holder : held_by t (p.cells l).copy ≡ is_holder v.bus s.hart l = held_is w c v p s.hart l f.local shows in
     let hart : kept w l (p.cells l).slot (held_by t (p.cells l).copy) (p.harts t) ≡ kept_if w l (clears v s) (p.harts t) =
     ap₂ (λ y z. kept w l y z (p.harts t)) slot holder ∙ kept_is w l n t d s.own (is_holder v.bus s.hart l) (p.harts t) in
@@ -106,11 +117,7 @@ install_shown w c n v s d x locals p low one map sized f here are shows =
     (shows_change w c v p s.hart (swept w l (clears v s) x) (kept_if w l (clears v s) (p.harts t)) f.local sized.locals shows (kept_shown w v.bus l s.hart x (p.harts t) (clears v s) (shown_hart w c v p s.hart x f.local sized shows here))) in
     let quiet : (acts w l Installs (change t (kept_if w l (clears v s) (p.harts t)) p)).sent ≡ [] = ap (λ y. (install_row y (p.cells l) (p.homes l)).sent) slot ∙ ap (λ (y : LineEffect). y.sent) (install_is n t d s.own (p.cells l) (p.homes l)) in
     record {
-      guard = record {
-        mine = cluster_is w c s.hart f.local;
-        came = subst (HasCome n t) (sym slot) (guarded n t d s.own);
-        room = room_table w c v p s.hart l f.local sized shows f.room;
-      };
+      guard = fits w c n v s d p one sized f shows;
       shows = subst (λ (y : PartEffect). Shows w c (after v n s d locals) y.part) (sym row_is) all;
       sent_is = ap (λ (y : PartEffect). y.sent) row_is ∙ quiet;
     }

@@ -56,11 +56,14 @@ pub mod EvictRow
 pub mod EvictTold
 pub mod Resting
 pub mod AskRow
-pub mod AtomicRows
-pub mod AtomicTold
 pub mod LinesInside
 pub mod AskCauses
 pub mod AskTold
+pub mod AtomicRows
+pub mod AtomicTold
+pub mod CanLines
+pub mod CanSteps
+pub mod OutOfRange
 pub mod OpeningStores
 pub mod Ready
 pub mod LawsOffered

@@ -1,5 +1,5 @@
 -- Instructions that take or give back a lock word: the row of sending their messages, and when none is sent.
-use Rattle.std.proofs.Common.{◌≡◌, ℕ, ◌+◌, ◌<◌, true, false, [], ◌∷◌, slice_index_or, refl, sym, ap, ◌∙◌, subst}
+use Rattle.std.proofs.Common.{◌≡◌, ℕ, ◌+◌, ◌<◌, Bool, true, false, not, [], ◌∷◌, slice_index_or, refl, sym, ap, ◌∙◌, subst}
 use Rattle.dash_base.specs.declared.id.ClusterId.{ClusterId}
 use Rattle.dash_base.specs.declared.id.HartId.{HartId}
 use Rattle.dash_base.specs.declared.id.WordAddr.{WordAddr}
@@ -103,3 +103,12 @@ undrained_cannot w c k word v x low is n undrained p s e =
     let told = (step_told w c k (needed.Unlock word) p e.event e.done e.is_of e.guard (part_needs w c v k (needed.Unlock word) x p low s n)).1 in
     let back = drained_back w c k v x p low s (shown_by w c v k x p low s (sym is)) told in
     cc
+
+-- what the code's test tells
+pub flipped : (b : Bool) → not b ≡ true → b ≡ false
+flipped true e = absurd (cc)
+flipped false e = refl
+
+pub flipped_back : (b : Bool) → not b ≡ false → b ≡ true
+flipped_back true e = refl
+flipped_back false e = absurd (cc)

@@ -38,10 +38,10 @@ pub does_by : (w : Config) (v : PartsView) (k answer : ℕ) (need : Need) (x : L
 does_by w v k answer need x core n is does = does need (next_needs w.image w.top x.core need (subst (λ (y : Local). Needs w.image w.top y.core need) (sym is) (n x)))
 
 -- the access of a store
-abbrev store_access : ℕ → ℕ → WordAddr → ℕ → ℕ → Access
+abbrev pub store_access : ℕ → ℕ → WordAddr → ℕ → ℕ → Access
 store_access h n word mask value = record (bare_access h n op.Store word) { mask = mask; written = Some value }
 
-store_by : (w : Config) (c k n mask value : ℕ) (g : HartId) (word : WordAddr) (v : PartsView) (x : Local) (core : HartState) (b : BufferView)
+pub store_by : (w : Config) (c k n mask value : ℕ) (g : HartId) (word : WordAddr) (v : PartsView) (x : Local) (core : HartState) (b : BufferView)
     → g.0 ≡ hart_at w c k → k < w.top.harts → AreSized w c v → HartNeeds w v k (needed.Store word mask value) → x ≡ slice_index_or v.locals k x → n ≡ x.core.retired + 1 → length x.buffer.items < w.top.buffer
     → ((need : Need) → IsNext w.image w.top x.core need → Does w.image w.top x.core need 0 core)
     → b.items ≡ x.buffer.items ++ record { number = n; word = word; mask = mask; value = value } ∷ []
@@ -95,10 +95,10 @@ store_cannot w c k mask value word v x low is n full p s e =
     absurd (omega arith)
 
 -- the access of an SC that fails
-abbrev failed_access : ℕ → ℕ → WordAddr → ℕ → Labels → Access
+abbrev pub failed_access : ℕ → ℕ → WordAddr → ℕ → Labels → Access
 failed_access h n word operand labels = rmw_access (record (bare_access h n op.Amo word) { labels = labels }) Sc operand 0 false
 
-sc_by : (w : Config) (c k n operand : ℕ) (g : HartId) (word : WordAddr) (labels : Labels) (v : PartsView) (x : Local) (core : HartState)
+pub sc_by : (w : Config) (c k n operand : ℕ) (g : HartId) (word : WordAddr) (labels : Labels) (v : PartsView) (x : Local) (core : HartState)
     → g.0 ≡ hart_at w c k → k < w.top.harts → AreSized w c v → HartNeeds w v k (needed.Rmw word Sc operand labels) → x ≡ slice_index_or v.locals k x → n ≡ x.core.retired + 1
     → reserved_by x.reserved ≢ Some word.0 → slot_at v.slots k ≡ None
     → ((need : Need) → IsNext w.image w.top x.core need → Does w.image w.top x.core need 1 core)
@@ -128,7 +128,7 @@ sc_by w c k n operand g word labels v x core e low sized needs is number unreser
   };
 }
 
-none_of : {A : Type 0} (o : Option A) → is_some o ≡ false → o ≡ None
+pub none_of : {A : Type 0} (o : Option A) → is_some o ≡ false → o ≡ None
 none_of None e = refl
 none_of (Some x) e = absurd (cc)
 

@@ -19,3 +19,4 @@ pub mod Giving
 pub mod Hints
 pub mod EvictFits
 pub mod AskFits
+pub mod StepFits

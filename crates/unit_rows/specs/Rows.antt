@@ -37,3 +37,7 @@ pub record Enabled (w : Config) (c : ℕ) (choice : Choice) (p : Part) : Type 0 
 -- the choice is enabled on no part that the parts show
 abbrev pub Cannot : Config → ℕ → PartsView → Choice → Type 0
 Cannot w c v choice = (p : Part) → Shows w c v p → Enabled w c choice p → ⊥
+
+-- the choice is enabled on each part that the parts show
+abbrev pub Can : Config → ℕ → PartsView → Choice → Type 0
+Can w c v choice = (p : Part) → Shows w c v p → Enabled w c choice p

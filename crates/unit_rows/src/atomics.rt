@@ -1,17 +1,19 @@
 //! Atomic operations, and SC.
-ghost use Rattle.std.specs.Prelude.{◌≡◌, ◌<◌, [], false, None, if◌then◌else◌, IfSome, IfNone};
+ghost use Rattle.std.specs.Prelude.{◌≡◌, ℕ, ◌<◌, [], false, None, if◌then◌else◌, IfSome, IfNone};
 ghost use Rattle.dash_base.specs.declared.line.Line.{Line};
 ghost use Rattle.dash_base.specs.declared.need.Need.TheVariants.{Rmw};
 ghost use Rattle.unit_rows.specs.declared.choice.Choice.TheVariants.{Step};
 ghost use Rattle.unit_rows.specs.AtomicFits.{AtomicFits, HartFails};
 ghost use Rattle.unit_rows.specs.LineNeeds.{is_sc};
 ghost use Rattle.unit_rows.specs.Shown.{shown, config, AreSized};
+ghost use Rattle.unit_rows.specs.StepFits.{EndsAs};
 ghost use Rattle.unit_rows.specs.Steps.{HartNeeds};
 ghost use Rattle.unit_rows.specs.Rows.{DoesChoice, Cannot};
 
 use crate::held::owns_alone;
 use crate::line_words::{word_in, written};
 use crate::needs::{fails, is_sc};
+use crate::outcome::Outcome;
 use crate::parts::Parts;
 use crate::site::Site;
 use crate::stores::sc_fail;
@@ -19,10 +21,38 @@ use dash_base::{AmoOp, Labels, Line, Need, WordAddr};
 use dash_event::{Access, Kind, Seen, offer};
 use fence_release::may_commit;
 
+/// What an atomic operation of a hart does, or an SC, which fails where its word is not reserved. `None`
+/// where the hart can't do it: one that writes needs its hart in state M on a line that is not pending,
+/// and no store to the word that waits, and as a release waits for all that the hart stored; an SC that
+/// fails needs an empty front slot.
+pub fn fits_atomic(
+    site: &Site,
+    parts: &Parts,
+    hart: u32,
+    word: WordAddr,
+    op: AmoOp,
+    labels: Labels,
+) -> Option<Outcome>
+    requires sized { AreSized (config site.now) site.now.cluster.0 (shown parts.now) }
+    requires hart { hart < site.now.topology.harts }
+    ensures fits { IfSome result (λ outcome. EndsAs (config site.now) (shown parts.now) hart word op labels outcome) }
+    ensures idle { IfNone result ((operand : ℕ) → HartNeeds (config site.now) (shown parts.now) hart (Rmw word op operand labels) → Cannot (config site.now) site.now.cluster.0 (shown parts.now) (Step hart)) }
+{
+    parts.slots.keeps_one_slot_a_line();
+    parts.bus.keeps_one_map();
+    let local = &parts.locals[hart as usize];
+    if fails(op, local.reserved, word) {
+        if parts.slots.get(hart).is_some() {
+            return None;
+        }
+        return Some(Outcome::Fails);
+    }
+    let copy = writable(site, parts, hart, word, labels)?;
+    Some(Outcome::Writes(copy))
+}
+
 /// An atomic operation or an SC, which fails where its word is not reserved. `None` where the hart can't
-/// do it: one that writes needs its hart in state M on a line that is not pending, and no store to the
-/// word that waits, and as a release waits for all that the hart stored; an SC that fails needs an
-/// empty front slot.
+/// do it, as `fits_atomic` says.
 pub fn atomic(
     site: &Site,
     parts: &mut Parts,
@@ -40,14 +70,14 @@ pub fn atomic(
     ensures same { IfNone result (shown parts.new ≡ shown parts.old) }
     ensures sized { AreSized (config site.now) site.now.cluster.0 (shown parts.new) }
 {
-    let local = &parts.locals[hart as usize];
-    if fails(op, local.reserved, word) {
-        return sc_fail(site, parts, hart, word, operand, labels);
+    let outcome = fits_atomic(site, parts, hart, word, op, labels)?;
+    match outcome {
+        Outcome::Fails => sc_fail(site, parts, hart, word, operand, labels),
+        Outcome::Writes(copy) => rmw(site, parts, hart, word, op, operand, labels, copy),
     }
-    rmw(site, parts, hart, word, op, operand, labels)
 }
 
-/// An atomic operation that writes: what it makes of the word becomes the line's next version, and the
+/// An atomic operation that writes to this copy of its line: what it makes of the word becomes the line's next version, and the
 /// hart is answered the whole word that it found, or 0 for an SC.
 fn rmw(
     site: &Site,
@@ -57,10 +87,12 @@ fn rmw(
     op: AmoOp,
     operand: u32,
     labels: Labels,
+    copy: Line,
 ) -> Option<Kind>
     requires sized { AreSized (config site.now) site.now.cluster.0 (shown parts.old) }
     requires hart { hart < site.now.topology.harts }
     requires need { HartNeeds (config site.now) (shown parts.old) hart (Rmw word op operand labels) }
+    requires fits { AtomicFits (config site.now) (shown parts.old) hart word labels copy }
     requires reserves { HartFails (shown parts.old) hart op word false }
     ensures did { IfSome result (λ kind. DoesChoice (config site.now) site.now.cluster.0 (Step hart) kind (shown parts.old) (shown parts.new) []) }
     ensures idle { IfNone result (Cannot (config site.now) site.now.cluster.0 (shown parts.old) (Step hart)) }
@@ -69,7 +101,6 @@ fn rmw(
 {
     parts.bus.keeps_one_map();
     let number = parts.locals[hart as usize].core.retired() + 1;
-    let copy = fits_atomic(site, parts, hart, word, labels)?;
     let need = Need::Rmw {
         word,
         op,
@@ -96,13 +127,7 @@ fn rmw(
 
 /// The copy of a word's line, where a hart may do an atomic operation that writes to the word: the hart
 /// is in state M on the line, and free to commit.
-fn fits_atomic(
-    site: &Site,
-    parts: &Parts,
-    hart: u32,
-    word: WordAddr,
-    labels: Labels,
-) -> Option<Line>
+fn writable(site: &Site, parts: &Parts, hart: u32, word: WordAddr, labels: Labels) -> Option<Line>
     requires sized { AreSized (config site.now) site.now.cluster.0 (shown parts.now) }
     requires hart { hart < site.now.topology.harts }
     ensures fits { IfSome result (λ copy. AtomicFits (config site.now) (shown parts.now) hart word labels copy) }

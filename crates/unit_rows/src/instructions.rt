@@ -1,9 +1,10 @@
 //! Instructions that access no word of memory.
-ghost use Rattle.std.specs.Prelude.{◌≡◌, ◌<◌, ◌||◌, not, [], IfSome, IfNone};
+ghost use Rattle.std.specs.Prelude.{◌≡◌, ◌<◌, ◌||◌, false, not, [], IsTrue, IfSome, IfNone};
 ghost use Rattle.dash_base.specs.declared.need.Need.TheVariants.{Alu, Put, Stop, Fence};
 ghost use Rattle.fence_release.specs.Conditions.{is_drained};
 ghost use Rattle.unit_rows.specs.declared.choice.Choice.TheVariants.{Step};
 ghost use Rattle.unit_rows.specs.Shown.{shown, config, AreSized};
+ghost use Rattle.unit_rows.specs.StepFits.{FenceFits};
 ghost use Rattle.unit_rows.specs.Steps.{HartNeeds, HartGoes, Retired};
 ghost use Rattle.unit_rows.specs.Rows.{DoesChoice, Cannot};
 
@@ -85,6 +86,17 @@ fn passes(waits: bool, hart: u32, buffer: &Buffer, acks: &AckTable) -> bool
     !waits || may_fence(hart, buffer, acks)
 }
 
+/// Whether a fence of a hart may retire.
+pub fn fits_fence(site: &Site, parts: &Parts, hart: u32, waits: bool) -> bool
+    requires sized { AreSized (config site.now) site.now.cluster.0 (shown parts.now) }
+    requires hart { hart < site.now.topology.harts }
+    ensures fits { IsTrue result → FenceFits (shown parts.now) hart waits }
+    ensures idle { result ≡ false → HartNeeds (config site.now) (shown parts.now) hart (Fence waits) → Cannot (config site.now) site.now.cluster.0 (shown parts.now) (Step hart) }
+{
+    let local = &parts.locals[hart as usize];
+    passes(waits, hart, &local.buffer, &parts.acks)
+}
+
 /// A fence. `None` where it still waits.
 pub fn fence(site: &Site, parts: &mut Parts, hart: u32, waits: bool) -> Option<Kind>
     requires sized { AreSized (config site.now) site.now.cluster.0 (shown parts.old) }
@@ -95,8 +107,7 @@ pub fn fence(site: &Site, parts: &mut Parts, hart: u32, waits: bool) -> Option<K
     ensures same { IfNone result (shown parts.new ≡ shown parts.old) }
     ensures sized { AreSized (config site.now) site.now.cluster.0 (shown parts.new) }
 {
-    let local = &parts.locals[hart as usize];
-    if !passes(waits, hart, &local.buffer, &parts.acks) {
+    if !fits_fence(site, parts, hart, waits) {
         return None;
     }
     let pc = retire(site, parts, hart);

@@ -6,23 +6,26 @@
 //! of that choice may happen. No call but `opening_parts` takes memory.
 #![tactic(auto)]
 
-pub use atomics::atomic;
+pub use atomics::{atomic, fits_atomic};
 pub use bus::{bus_own, bus_read, fits_bus_own, fits_bus_read};
 pub use choice::Choice;
 pub use commits::{commit, fits_commit};
 pub use evictions::{evict, fits_evict};
 pub use hints::hint;
 pub use installs::{fits_install, install};
-pub use instructions::{alu, fence, put, stop};
-pub use loads::load;
-pub use lock_instructions::{ask, unlock};
-pub use lock_words::{free, grant, is_free};
+pub use instructions::{alu, fence, fits_fence, put, stop};
+pub use loads::{fits_load, load};
+pub use lock_instructions::{ask, fits_ask, fits_unlock, unlock};
+pub use lock_words::{fits_grant, free, grant, is_free};
 pub use messages::take;
+pub use needs::{is_this, needed_copy, needed_store, needed_write};
 pub use opening::opening_parts;
+pub use outcome::Outcome;
 pub use parts::{Local, Parts};
 pub use requests::{again, fits_again, fits_request, request};
 pub use site::Site;
-pub use stores::store;
+pub use source::Source;
+pub use stores::{fits_store, store};
 
 mod atomics;
 mod burst;
@@ -43,11 +46,13 @@ mod lock_words;
 mod messages;
 mod needs;
 mod opening;
+mod outcome;
 mod parts;
 mod replies;
 mod requests;
 mod served;
 mod site;
+mod source;
 mod stores;
 mod sweep;
 mod wanted;

@@ -1,20 +1,57 @@
 //! Loads, and LR.
 ghost use Rattle.std.specs.Prelude.{◌≡◌, ◌<◌, [], false, Some, IfSome, IfNone, slice_index_or, if◌then◌else◌};
+ghost use Rattle.dash_base.specs.declared.instr.Labels.{Labels};
 ghost use Rattle.dash_base.specs.declared.need.Need.TheVariants.{Load};
 ghost use Rattle.write_buffer.specs.Look.{newest_of, look_by};
 ghost use Rattle.write_buffer.specs.declared.entry.Look.TheVariants.{None as NoStore, Hit};
 ghost use Rattle.unit_rows.specs.declared.choice.Choice.TheVariants.{Step};
 ghost use Rattle.unit_rows.specs.declared.parts.Local.{Local};
 ghost use Rattle.unit_rows.specs.Shown.{shown, config, AreSized};
+ghost use Rattle.unit_rows.specs.StepFits.{LoadFits};
 ghost use Rattle.unit_rows.specs.Steps.{HartNeeds};
 ghost use Rattle.unit_rows.specs.Rows.{DoesChoice, Cannot};
 
+use crate::held::holds;
 use crate::line_words::word_in;
 use crate::parts::Parts;
 use crate::site::Site;
+use crate::source::Source;
 use dash_base::{Labels, Mask, Need, WordAddr, merge};
 use dash_event::{Access, Kind, Seen, offer};
 use write_buffer::Look;
+
+/// Where a load of these bytes of a word finds them; `reserve` says that it is LR. `None` where the
+/// stores that wait do not let it retire, or its hart does not hold the line.
+pub fn fits_load(
+    site: &Site,
+    parts: &Parts,
+    hart: u32,
+    word: WordAddr,
+    mask: Mask,
+    reserve: bool,
+) -> Option<Source>
+    requires sized { AreSized (config site.now) site.now.cluster.0 (shown parts.now) }
+    requires hart { hart < site.now.topology.harts }
+    ensures fits { IfSome result (λ source. LoadFits (config site.now) (shown parts.now) hart word mask reserve source) }
+    ensures idle { IfNone result ((labels : Labels) → HartNeeds (config site.now) (shown parts.now) hart (Load word mask labels reserve) → Cannot (config site.now) site.now.cluster.0 (shown parts.now) (Step hart)) }
+{
+    let local = &parts.locals[hart as usize];
+    match local.buffer.look(word, mask) {
+        Look::Wait => None,
+        Look::Hit { value, number } => {
+            if reserve {
+                return None;
+            }
+            Some(Source::Stored { value, number })
+        }
+        Look::None => {
+            if !holds(&parts.bus, hart, site.topology.line_of(word)) {
+                return None;
+            }
+            Some(Source::Held)
+        }
+    }
+}
 
 /// A load of these bytes of a word; `reserve` says that it is LR, which reserves the word. `None`
 /// where the stores that wait do not let it retire, or its hart does not hold the line.
@@ -35,16 +72,12 @@ pub fn load(
     ensures same { IfNone result (shown parts.new ≡ shown parts.old) }
     ensures sized { AreSized (config site.now) site.now.cluster.0 (shown parts.new) }
 {
-    let local = &parts.locals[hart as usize];
-    match local.buffer.look(word, mask) {
-        Look::Wait => None,
-        Look::Hit { value, number } => {
-            if reserve {
-                return None;
-            }
+    let source = fits_load(site, parts, hart, word, mask, reserve)?;
+    match source {
+        Source::Stored { value, number } => {
             load_stored(site, parts, hart, word, mask, labels, value, number)
         }
-        Look::None => load_held(site, parts, hart, word, mask, labels, reserve),
+        Source::Held => load_held(site, parts, hart, word, mask, labels, reserve),
     }
 }
 

@@ -1,13 +1,15 @@
 //! Lock words: who asks for them, and to whom they are granted.
-ghost use Rattle.std.specs.Prelude.{◌≡◌, [], true};
+ghost use Rattle.std.specs.Prelude.{◌≡◌, [], true, false, IsTrue};
 ghost use Rattle.dash_base.specs.declared.id.ClusterId.{ClusterId as Sender};
 ghost use Rattle.dash_msg.specs.declared.msg.Msg.{Msg as Message};
 ghost use Rattle.dash_msg.specs.declared.msg.Msg.TheVariants.{LockAsk};
 ghost use Rattle.dash_model.specs.Ranges.{has_hart};
 ghost use Rattle.unit_rows.specs.Shown.{config, shown, AreSized};
-ghost use Rattle.queue_lock.specs.View.{is_own};
+ghost use Rattle.queue_lock.specs.View.{is_own, is_ready, lock_at};
 ghost use Rattle.unit_rows.specs.LockWords.{own_number, own_hart_number, IsAnswer, AskersGoOn, address, IsAskOf, IsUnlockOf, Granted, Freed};
 ghost use Rattle.dash_model.specs.Guard.{frees};
+ghost use Rattle.unit_rows.specs.declared.choice.Choice.TheVariants.{Grant};
+ghost use Rattle.unit_rows.specs.Rows.{Cannot};
 ghost use Rattle.unit_rows.specs.Takes.{Takes};
 
 use crate::parts::Parts;
@@ -128,6 +130,19 @@ fn unlock_access(hart: HartId, number: u32, word: WordAddr, old: u32, count: u64
     }
 }
 
+/// Whether a lock word may be granted: it is one of this home that is 0 and for which a hart waits.
+pub fn fits_grant(site: &Site, parts: &Parts, number: u32) -> bool
+    requires { AreSized (config site.now) site.now.cluster.0 (shown parts.now) }
+    ensures own { IsTrue result → is_own parts.now.locks number ≡ true }
+    ensures ready { IsTrue result → is_ready (lock_at parts.now.locks number) ≡ true }
+    ensures idle { result ≡ false → Cannot (config site.now) site.now.cluster.0 (shown parts.now) (Grant number) }
+{
+    if !parts.locks.is_own(number) {
+        return false;
+    }
+    parts.locks.ready(number)
+}
+
 /// Grants a lock word, where it is one of this home that is 0 and for which a hart waits. The answer is
 /// what happened, and the message to that hart; `None` where that can't be.
 pub fn grant(site: &Site, parts: &mut Parts, number: u32) -> Option<(Kind, Sent)>
@@ -135,10 +150,7 @@ pub fn grant(site: &Site, parts: &mut Parts, number: u32) -> Option<(Kind, Sent)
     ensures did { Granted (config site.now) site.now.cluster.0 number (shown parts.old) (shown parts.new) result }
     ensures sized { AreSized (config site.now) site.now.cluster.0 (shown parts.new) }
 {
-    if !parts.locks.is_own(number) {
-        return None;
-    }
-    if !parts.locks.ready(number) {
+    if !fits_grant(site, parts, number) {
         return None;
     }
     let word = address(site, &parts.locks, number);

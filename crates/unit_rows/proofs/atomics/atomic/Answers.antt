@@ -1,22 +1,29 @@
-use Rattle.std.proofs.Common.{◌≢◌, ◌<◌, Some, sym, ap, ◌∙◌, subst}
-use Rattle.dash_base.specs.declared.need.Need.TheVariants.{Rmw}
-use Rattle.unit_rows.specs.declared.parts.Local.{Local}
-use Rattle.unit_rows.specs.LineNeeds.{fails}
-use Rattle.unit_rows.specs.Shown.{config, shown, reserved_by}
-use Rattle.unit_rows.specs.Steps.{HartNeeds}
-use Rattle.unit_rows.proofs.AtomicTold.{fails_as_sc, fails_unreserved}
-use Rattle.unit_rows.proofs.Retiring.{one_local}
+use Rattle.std.proofs.Common.{subst}
+use Rattle.unit_rows.specs.Shown.{config, shown}
+use Rattle.unit_rows.specs.StepFits.{EndsAs}
+use Rattle.unit_rows.proofs.AtomicTold.{needs_sc, fails_unreserved}
+use Rattle.unit_rows.proofs.LoadRows.{if_none}
 use Rattle.unit_rows.proofs.atomics.atomic.Goals as goal
 
-pub sc_fail-requires-clause-need : goal.sc_fail-requires-clause-need
-sc_fail-requires-clause-need c =
-    subst (λ o. HartNeeds (config c.args.site.now) (shown c.args.parts.now) c.args.hart (Rmw c.args.word o c.args.operand c.args.labels)) (fails_as_sc c.args.op c.index-local.result.now.reserved c.args.word (sym c.fails.ensures ∙ c.if-fails.true)) c.requires.need
+pub returns-in_err-outcome-clause-idle : goal.returns-in_err-outcome-clause-idle
+returns-in_err-outcome-clause-idle c = if_none c.from_residual.result _ (c.in_err-outcome.ensures.idle c.args.operand c.requires.need)
 
-pub sc_fail-requires-clause-unreserved : goal.sc_fail-requires-clause-unreserved
-sc_fail-requires-clause-unreserved c = λ d.
-    let here = one_local (shown c.args.parts.now) c.args.hart c.index-local.result.now (subst (λ n. c.args.hart < n) (sym c.requires.sized.locals) c.requires.hart) c.index-local.ensures d in
-    subst (λ (y : Local). reserved_by y.reserved ≢ Some c.args.word.0) (sym here) (fails_unreserved c.args.op c.index-local.result.now.reserved c.args.word (sym c.fails.ensures ∙ c.if-fails.true))
+pub sc_fail-requires : goal.sc_fail-requires
+sc_fail-requires c =
+    let f = subst (EndsAs (config c.args.site.now) (shown c.args.parts.now) c.args.hart c.args.word c.args.op c.args.labels) c.in-Fails.is c.in_ok-outcome.ensures.fits in record {
+      sized = c.requires.sized;
+      hart = c.requires.hart;
+      need = needs_sc (config c.args.site.now) (shown c.args.parts.now) c.args.hart c.args.op c.args.word c.args.operand c.args.labels f.0 c.requires.need;
+      unreserved = λ d. fails_unreserved c.args.op _ c.args.word (f.0 d);
+      front = f.1;
+    }
 
-pub rmw-requires-clause-reserves : goal.rmw-requires-clause-reserves
-rmw-requires-clause-reserves c = λ d.
-    ap (λ (y : Local). fails c.args.op y.reserved c.args.word) (one_local (shown c.args.parts.now) c.args.hart c.index-local.result.now (subst (λ n. c.args.hart < n) (sym c.requires.sized.locals) c.requires.hart) c.index-local.ensures d) ∙ sym c.fails.ensures ∙ c.if-fails.false
+pub rmw-requires : goal.rmw-requires
+rmw-requires c =
+    let f = subst (EndsAs (config c.args.site.now) (shown c.args.parts.now) c.args.hart c.args.word c.args.op c.args.labels) c.in-Writes.is c.in_ok-outcome.ensures.fits in record {
+      sized = c.requires.sized;
+      hart = c.requires.hart;
+      need = c.requires.need;
+      fits = f.1;
+      reserves = f.0;
+    }

@@ -1,35 +1,36 @@
-use Rattle.std.proofs.Common.{sym, ap, ◌∙◌}
-use Rattle.dash_base.specs.declared.id.LineId.{LineId}
-use Rattle.fence_release.specs.Conditions.{is_free_to_commit}
-use Rattle.snoop_bus.specs.View.{copy_of}
-use Rattle.unit_rows.specs.Held.{owns_alone}
+use Rattle.std.proofs.Common.{◌<◌, is_some, sym, ap, ◌∙◌, subst}
+use Rattle.dash_base.specs.declared.need.Need.TheVariants.{Rmw}
+use Rattle.unit_rows.specs.declared.parts.Local.{Local}
+use Rattle.unit_rows.specs.LineNeeds.{fails}
 use Rattle.unit_rows.specs.Shown.{config, shown}
-use Rattle.unit_rows.proofs.AtomicTold.{fits_if, no_copy, not_owned, not_free}
+use Rattle.unit_rows.specs.Steps.{HartNeeds}
+use Rattle.unit_rows.proofs.AtomicTold.{fails_as_sc, fails_unreserved, atomic_cannot}
+use Rattle.unit_rows.proofs.LoadRows.{if_none}
+use Rattle.unit_rows.proofs.Retiring.{one_local}
+use Rattle.unit_rows.proofs.StoreRows.{sc_cannot, none_of}
 use Rattle.unit_rows.proofs.atomics.fits_atomic.Goals as goal
 
-pub returns-then-not-owns_alone-clause-idle : goal.returns-then-not-owns_alone-clause-idle
-returns-then-not-owns_alone-clause-idle c =
-    let v = shown c.args.parts.now in
-    not_owned (config c.args.site.now) v c.args.hart c.args.word c.args.labels
-    (ap (λ (l : LineId). owns_alone v.bus c.args.hart l.0) (sym c.line_of-line.ensures) ∙ sym c.owns_alone.ensures ∙ c.if-not-owns_alone.true)
-
-pub returns-then-not-may_commit-clause-idle : goal.returns-then-not-may_commit-clause-idle
-returns-then-not-may_commit-clause-idle c =
-    let v = shown c.args.parts.now in
+pub returns-then-is_some-clause-idle : goal.returns-then-is_some-clause-idle
+returns-then-is_some-clause-idle c = λ operand n.
     let x = c.index-local.result.now in
-    not_free (config c.args.site.now) c.args.site.now.cluster.0 c.args.hart v c.args.word c.args.labels x c.requires.hart c.requires.sized c.index-local.ensures
-    (ap (λ (l : LineId). is_free_to_commit c.args.labels.rl c.args.word.0 l.0 c.args.hart x.buffer v.acks) (sym c.line_of-line.ensures) ∙ sym c.may_commit.ensures ∙ c.if-not-may_commit.true)
+    let fail = sym c.fails.ensures ∙ c.if-fails.true in
+    let need = subst (λ o. HartNeeds (config c.args.site.now) (shown c.args.parts.now) c.args.hart (Rmw c.args.word o operand c.args.labels)) (fails_as_sc c.args.op x.reserved c.args.word fail) n in
+    sc_cannot (config c.args.site.now) c.args.site.now.cluster.0 c.args.hart operand c.args.word c.args.labels (shown c.args.parts.now) x c.requires.hart c.index-local.ensures need (fails_unreserved c.args.op x.reserved c.args.word fail) c.keeps_one_slot_a_line.ensures (sym (ap is_some c.get.ensures) ∙ sym c.is_some.ensures ∙ c.if-is_some.true)
+
+pub returns-then-fails-clause-fits : goal.returns-then-fails-clause-fits
+returns-then-fails-clause-fits c = (
+  λ d. ap (λ (y : Local). fails c.args.op y.reserved c.args.word) (one_local (shown c.args.parts.now) c.args.hart c.index-local.result.now (subst (λ n. c.args.hart < n) (sym c.requires.sized.locals) c.requires.hart) c.index-local.ensures d) ∙ sym c.fails.ensures ∙ c.if-fails.true,
+  sym c.get.ensures ∙ none_of c.get.result (sym c.is_some.ensures ∙ c.if-is_some.false),
+)
+
+pub returns-in_err-copy-clause-idle : goal.returns-in_err-copy-clause-idle
+returns-in_err-copy-clause-idle c =
+    let x = c.index-local.result.now in
+    if_none c.from_residual.result _ (λ operand n. atomic_cannot (config c.args.site.now) c.args.site.now.cluster.0 c.args.hart operand c.args.op c.args.word c.args.labels (shown c.args.parts.now) x c.requires.hart c.requires.sized c.keeps_one_map.ensures c.index-local.ensures n
+    (λ d. ap (λ (y : Local). fails c.args.op y.reserved c.args.word) (one_local (shown c.args.parts.now) c.args.hart x (subst (λ n. c.args.hart < n) (sym c.requires.sized.locals) c.requires.hart) c.index-local.ensures d) ∙ sym c.fails.ensures ∙ c.if-fails.false) c.in_err-copy.ensures.idle)
 
 pub returns-clause-fits : goal.returns-clause-fits
-returns-clause-fits c =
-    let v = shown c.args.parts.now in
-    let x = c.index-local.result.now in
-    fits_if (config c.args.site.now) v c.args.hart c.args.word c.args.labels x c.peek.result c.index-local.ensures
-    (ap (λ (l : LineId). owns_alone v.bus c.args.hart l.0) (sym c.line_of-line.ensures) ∙ sym c.owns_alone.ensures ∙ c.if-not-owns_alone.false)
-    (ap (λ (l : LineId). is_free_to_commit c.args.labels.rl c.args.word.0 l.0 c.args.hart x.buffer v.acks) (sym c.line_of-line.ensures) ∙ sym c.may_commit.ensures ∙ c.if-not-may_commit.false)
-    (c.peek.ensures ∙ ap (λ (l : LineId). copy_of v.bus l.0) c.line_of-line.ensures)
-
-pub returns-clause-idle : goal.returns-clause-idle
-returns-clause-idle c =
-    let v = shown c.args.parts.now in
-    no_copy (config c.args.site.now) v c.args.hart c.args.word c.args.labels c.peek.result (c.peek.ensures ∙ ap (λ (l : LineId). copy_of v.bus l.0) c.line_of-line.ensures)
+returns-clause-fits c = (
+  λ d. ap (λ (y : Local). fails c.args.op y.reserved c.args.word) (one_local (shown c.args.parts.now) c.args.hart c.index-local.result.now (subst (λ n. c.args.hart < n) (sym c.requires.sized.locals) c.requires.hart) c.index-local.ensures d) ∙ sym c.fails.ensures ∙ c.if-fails.false,
+  c.in_ok-copy.ensures.fits,
+)

@@ -1,17 +1,19 @@
-use Rattle.std.proofs.Common.{◌+◌, ap}
+use Rattle.std.proofs.Common.{◌≡◌, ◌+◌, ◌<◌, sym, ap, ◌∙◌, subst}
+use Rattle.unit_rows.specs.declared.parts.Local.{Local}
 use Rattle.unit_rows.specs.Shown.{config, shown}
-use Rattle.unit_rows.proofs.Retiring.{hart_number, sized_local, capacity_of}
-use Rattle.unit_rows.proofs.LockSends.{does_ask, ask_cannot}
+use Rattle.unit_rows.proofs.Retiring.{hart_number, same_local, sized_local, capacity_of}
+use Rattle.unit_rows.proofs.LockSends.{does_ask}
 use Rattle.unit_rows.proofs.lock_instructions.ask.Goals as goal
 
-pub returns-then-local-clause-idle : goal.returns-then-local-clause-idle
-returns-then-local-clause-idle c =
-    ask_cannot (config c.args.site.now) c.args.site.now.cluster.0 c.args.hart c.args.value c.args.word (shown c.args.parts.now) c.index-local.result.now c.requires.hart c.index-local.ensures c.requires.need c.if-local.true
+pub returns-then-not-fits_ask-clause-idle : goal.returns-then-not-fits_ask-clause-idle
+returns-then-not-fits_ask-clause-idle c = c.fits_ask.ensures.idle c.if-not-fits_ask.true c.args.word c.args.value c.requires.need
 
 pub returns-clause-did : goal.returns-clause-did
 returns-clause-did c =
-    does_ask (config c.args.site.now) c.args.site.now.cluster.0 c.args.hart (c.retired.result + 1) c.args.value c.hart_id-id.result c.args.word c.home_of_lock-to.result (shown c.args.parts.now) c.index-local.result.now c.index_mut.result.now
-    (hart_number c.hart_id-id.ensures) c.requires.hart c.requires.sized c.requires.need c.index-local.ensures c.index_mut.ensures.value c.if-local.false (ap (λ n. n + 1) c.retired.ensures) c.home_of_lock-to.ensures
+    let f = c.fits_ask.ensures.fits c.if-not-fits_ask.false in
+    let same : c.index.result.now ≡ f.local = same_local (shown c.args.parts.now) c.args.hart c.index.result.now f.local (subst (λ n. c.args.hart < n) (sym c.requires.sized.locals) c.requires.hart) c.index.ensures f.is_local in
+    does_ask (config c.args.site.now) c.args.site.now.cluster.0 c.args.hart (c.retired-number.result + 1) c.args.value c.hart_id-id.result c.args.word c.home_of_lock-to.result (shown c.args.parts.now) c.index.result.now c.index_mut.result.now
+    (hart_number c.hart_id-id.ensures) c.requires.hart c.requires.sized c.requires.need c.index.ensures c.index_mut.ensures.value (ap (λ (y : Local). y.asked) same ∙ f.unsent) (ap (λ n. n + 1) c.retired-number.ensures) c.home_of_lock-to.ensures
 
 pub returns-clause-sized : goal.returns-clause-sized
 returns-clause-sized c =

@@ -2,23 +2,18 @@ use Rattle.std.proofs.Common.{◌≡◌, ◌≢◌, ◌+◌, ◌<◌, Some, is_s
 use Rattle.unit_rows.specs.declared.parts.Local.{Local}
 use Rattle.unit_rows.specs.Shown.{config, shown, reserved_by}
 use Rattle.unit_rows.proofs.Retiring.{hart_number, same_local, goes_on, sized_local, capacity_of}
-use Rattle.unit_rows.proofs.StoreRows.{does_sc_fail, sc_cannot}
+use Rattle.unit_rows.proofs.StoreRows.{does_sc_fail}
 use Rattle.unit_rows.proofs.stores.sc_fail.Goals as goal
-
-pub returns-then-is_some-clause-idle : goal.returns-then-is_some-clause-idle
-returns-then-is_some-clause-idle c =
-    sc_cannot (config c.args.site.now) c.args.site.now.cluster.0 c.args.hart c.args.operand c.args.word c.args.labels (shown c.args.parts.now) c.index-local.result.now c.requires.hart c.index-local.ensures c.requires.need
-    (subst (λ (y : Local). reserved_by y.reserved ≢ Some c.args.word.0) (sym c.index-local.ensures) (c.requires.unreserved c.index-local.result.now)) c.keeps_one_slot_a_line.ensures (sym (ap is_some c.get.ensures) ∙ sym c.is_some.ensures ∙ c.if-is_some.true)
 
 pub finish-requires : goal.finish-requires
 finish-requires c = goes_on (config c.args.site.now) (shown c.args.parts.now) c.args.hart c.index_mut-local.result.now c.index_mut-local.ensures.value (λ d. (c.requires.need d).goes)
 
 pub returns-clause-did : goal.returns-clause-did
 returns-clause-did c =
-    let same : c.index-local.result.now ≡ c.index_mut-local.result.now = (same_local (shown c.args.parts.now) c.args.hart c.index-local.result.now c.index_mut-local.result.now (subst (λ n. c.args.hart < n) (sym c.requires.sized.locals) c.requires.hart) c.index-local.ensures c.index_mut-local.ensures.value) in
+    let same : c.index.result.now ≡ c.index_mut-local.result.now = (same_local (shown c.args.parts.now) c.args.hart c.index.result.now c.index_mut-local.result.now (subst (λ n. c.args.hart < n) (sym c.requires.sized.locals) c.requires.hart) c.index.ensures c.index_mut-local.ensures.value) in
     does_sc_fail (config c.args.site.now) c.args.site.now.cluster.0 c.args.hart (c.retired-number.result + 1) c.args.operand c.hart_id.result c.args.word c.args.labels c.in_ok-access.access (shown c.args.parts.now) c.index_mut-local.result.now c.finish.new.self
     (hart_number c.hart_id.ensures) c.requires.hart c.requires.sized c.requires.need c.index_mut-local.ensures.value (ap (λ n. n + 1) c.retired-number.ensures ∙ ap (λ (y : Local). y.core.retired + 1) same)
-    (subst (λ (y : Local). reserved_by y.reserved ≢ Some c.args.word.0) (sym c.index_mut-local.ensures.value) (c.requires.unreserved c.index_mut-local.result.now)) (sym (ap is_some c.get.ensures) ∙ sym c.is_some.ensures ∙ c.if-is_some.false)
+    (subst (λ (y : Local). reserved_by y.reserved ≢ Some c.args.word.0) (sym c.index_mut-local.ensures.value) (c.requires.unreserved c.index_mut-local.result.now)) (ap is_some c.requires.front)
     (sym c.in_ok-access.was ∙ c.offer.ensures) c.finish.ensures.next
 
 pub returns-clause-sized : goal.returns-clause-sized

@@ -1,0 +1,17 @@
+pub mod Lanes
+pub mod Sending
+pub mod OnePart
+pub mod Looking
+pub mod Cores
+pub mod TakesListed
+pub mod Listed
+pub mod Turning
+pub mod EndsMet
+pub mod Offering
+pub mod InRange
+pub mod BusListing
+pub mod LockListing
+pub mod InTheWay
+pub mod EvictListing
+pub mod Fitting
+pub mod ByChoice

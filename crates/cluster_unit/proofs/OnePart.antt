@@ -1,0 +1,33 @@
+-- A log leads to one part.
+use Rattle.std.proofs.Common.{◌≡◌, ℕ, List, [], ◌∷◌, map, refl, sym, ap, ◌∙◌, subst}
+use Rattle.dash_event.specs.declared.event.Event.{Event}
+use Rattle.dash_model.specs.Config.{Config}
+use Rattle.dash_model.specs.Part.{Part, opening_part}
+use Rattle.dash_model.specs.HartRows.{HartEffect, PartEffect}
+use Rattle.dash_model.specs.Guard.{Guard}
+use Rattle.dash_model.specs.Row.{row}
+use Rattle.dash_model.specs.Machine.{Step, Steps, event_of, part_after}
+use Rattle.dash_model.specs.LocalRun.{IsLocalRun, part_at}
+use Rattle.dash_model.proofs.LawsOffered.{row_same}
+
+-- two steps of one event make the same part
+after_one : (w : Config) (c : ℕ) (p : Part) (e f : Event) (u v : ℕ) (d g : HartEffect) → e ≡ f → Guard w c e.kind d p → Guard w c f.kind g p
+    → part_after w c (record { event = e; stamp = u; done = d }) p ≡ part_after w c (record { event = f; stamp = v; done = g }) p
+after_one w c p e f u v d g is a b =
+    subst (λ (y : Event). part_after w c (record { event = e; stamp = u; done = d }) p ≡ part_after w c (record { event = y; stamp = v; done = g }) p) is
+    (ap (λ (r : PartEffect). record r.part { last = e.stamp }) (row_same w c e.kind d g p a (subst (λ (y : Event). Guard w c y.kind g p) (sym is) b)))
+
+first_is : (e f : Event) (es fs : List Event) → e ∷ es ≡ f ∷ fs → e ≡ f
+first_is e f es fs is = cc
+
+rest_is : (e f : Event) (es fs : List Event) → e ∷ es ≡ f ∷ fs → es ≡ fs
+rest_is e f es fs is = cc
+
+pub same_part : (w : Config) (c : ℕ) (p : Part) (gs hs : List Step) → map event_of gs ≡ map event_of hs → IsLocalRun w c p gs → IsLocalRun w c p hs → part_at w c p gs ≡ part_at w c p hs
+same_part w c p [] [] is r s = refl
+same_part w c p [] (h ∷ hs) is r s = absurd (cc)
+same_part w c p (g ∷ gs) [] is r s = absurd (cc)
+same_part w c p (g ∷ gs) (h ∷ hs) is r s =
+    let next : part_after w c g p ≡ part_after w c h p = after_one w c p g.event h.event g.stamp h.stamp g.done h.done (first_is g.event h.event (map event_of gs) (map event_of hs) is) r.0.guard s.0.guard in
+    same_part w c (part_after w c g p) gs hs (rest_is g.event h.event (map event_of gs) (map event_of hs) is) r.1 (subst (λ y. IsLocalRun w c y hs) (sym next) s.1)
+    ∙ ap (λ y. part_at w c y hs) next

@@ -1,0 +1,13 @@
+use Rattle.std.proofs.Common.{◌≡◌, ◌<◌, length, slice_index_or, option_map, refl, sym, ap, ◌∙◌, subst, rules, arith}
+use Rattle.std.proofs.lemmas.Bool.Decides.{nat_tests}
+use Rattle.cluster_unit.proofs.Turning.{turned_none, turned_one, picked}
+use Rattle.cluster_unit.proofs.unit.Unit.turn.Goals as goal
+
+pub returns-then-is_empty-clause-turned : goal.returns-then-is_empty-clause-turned
+returns-then-is_empty-clause-turned g c =
+    turned_none _ _ c.list.new.choices.items c.args.self.now.core c.list.new.self c.spend.new.self c.list.ensures.lists (sym c.list.new.choices.ok.0 ∙ (let e = c.if-is_empty.ensures in grind (arith, nat_tests))) c.spend.ensures
+
+pub returns-clause-turned : goal.returns-clause-turned
+returns-clause-turned g c =
+    turned_one _ _ c.list.new.choices.items c.perform.result c.args.self.now.core c.list.new.self c.perform.new.self c.len.result c.choose-number.result c.index-choice.result.now c.list.ensures.lists c.has_run.ensures (c.len.ensures ∙ c.list.new.choices.ok.0) c.choose-number.ensures.below
+    (picked _ c.args.self.now.chooser.boxed c.choose-number.new.self.boxed c.args.self.now.chooser.rotate c.choose-number.new.self.rotate c.len.result c.choose-number.result _ _ c.choose-number.ensures.below c.choose-number.ensures.rotates c.choose-number.ensures.picks c.choose-number.ensures.retires) c.index-choice.ensures c.perform.ensures

@@ -1,0 +1,42 @@
+-- What a unit's core keeps: its log is a run of its cluster by itself, whatever its lanes brought.
+use Rattle.std.specs.Prelude.{◌≡◌, ℕ, ◌+◌, ◌*◌, ◌^◌, ◌<◌, ◌≤◌, List, length, map}
+use Rattle.dash_event.specs.declared.event.Event.{Event}
+use Rattle.dash_model.specs.Config.{Config}
+use Rattle.dash_model.specs.Net.{Packet}
+use Rattle.dash_model.specs.Part.{Part, opening_part}
+use Rattle.dash_model.specs.Machine.{Step, event_of}
+use Rattle.dash_model.specs.LocalRun.{IsLocalRun, part_at, sent_in, received_in}
+use Rattle.unit_rows.specs.Shown.{PartsView, AreSized}
+use Rattle.unit_rows.specs.Local.{IsLocal}
+use Rattle.cluster_unit.specs.View.{CoreView}
+use Rattle.cluster_unit.specs.Ends.{Carry, AreOfClass, Brought, HaveSpare}
+
+-- its log is that of a local run of its cluster; its lanes carry what that run sent, and brought what it took, where they brought messages of their class
+pub record HasRun (a : CoreView) : Type 0 where
+  pub history : List Step
+  pub events : map event_of history ≡ a.log
+  pub ran : IsLocalRun a.config a.cluster (opening_part a.config) history
+  pub carry : Carry a.config.top.clusters a.cluster (sent_in a.config a.cluster (opening_part a.config) history) a.outlets
+  pub brought : AreOfClass a.config.top.clusters a.inlets → Brought a.config.top.clusters a.cluster (received_in a.cluster history) a.inlets
+
+-- the part of the machine that its log leads to
+pub record IsAt (a : CoreView) (p : Part) : Type 0 where
+  pub history : List Step
+  pub events : map event_of history ≡ a.log
+  pub ran : IsLocalRun a.config a.cluster (opening_part a.config) history
+  pub part : p ≡ part_at a.config a.cluster (opening_part a.config) history
+
+-- its parts show that part; and there is memory for each turn that is reserved: an event, and at most 17 messages by a lane
+pub record IsCore (v : PartsView) (last : ℕ) (a : CoreView) (capacity : ℕ) : Type 0 where
+  pub sent : List Packet
+  pub received : List Packet
+  pub local : IsLocal a.config a.cluster v a.log last sent received
+  pub carry : Carry a.config.top.clusters a.cluster sent a.outlets
+  pub brought : AreOfClass a.config.top.clusters a.inlets → Brought a.config.top.clusters a.cluster received a.inlets
+  pub sized : AreSized a.config a.cluster v
+  pub mine : a.cluster < a.config.top.clusters
+  pub outlets : length a.outlets ≡ 2 * a.config.top.clusters
+  pub inlets : length a.inlets ≡ 2 * a.config.top.clusters
+  pub spare : HaveSpare (17 * a.reserved) a.outlets
+  pub room : length a.log + a.reserved ≤ capacity
+  pub short : length a.log + a.reserved < 2 ^ 56

@@ -1,0 +1,16 @@
+pub mod Enabling
+pub mod Order
+pub mod Lists
+pub mod Listing
+pub mod Victims
+pub mod View
+pub mod Ends
+pub mod Core
+pub mod Turns
+pub mod Messages
+pub mod Reserving
+pub mod Choosing
+pub mod Takes
+pub mod Meeting
+pub mod Picking
+pub mod Acting

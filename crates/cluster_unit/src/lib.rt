@@ -1,0 +1,30 @@
+//! A cluster as a unit: what it may do next, and each event that it does as a step of the written machine.
+#![tactic(auto)]
+
+pub use meeting::meet_units;
+pub use turn::Turn;
+pub use unit::Unit;
+pub use unit_core::Core;
+
+mod act;
+mod answers;
+mod bus_choices;
+mod by_number;
+mod enabled;
+mod ends;
+mod events;
+mod evict_choices;
+mod grants;
+mod list;
+mod listing;
+mod meeting;
+mod messages;
+mod offers;
+mod range;
+mod reserve;
+mod step;
+mod takes;
+mod turn;
+mod unit;
+mod unit_core;
+mod victims;
