@@ -1,5 +1,6 @@
 //! Laws of logs. The functions do nothing: their contracts are the laws.
 ghost use Rattle.trace_merge.specs.OrderLaws.{CommitOrder, ConsoleIsTheRuns, OneHartIsInOrder, RunsAreSequential};
+ghost use Rattle.trace_merge.specs.MergedLogs.{MergedLogsAreRuns};
 ghost use Rattle.trace_merge.specs.WrittenLogs.{ForwardingIsAdmissible, MessageIsAdmissible, MessageIsProperlyLabelled, MessageIsInOrder};
 
 /// Where no sequential run of an image has a data race, the records of every admissible log, each at its
@@ -14,6 +15,12 @@ pub fn commit_order()
 /// run within the budgets, value for value.
 pub fn runs_are_sequential()
     ensures { RunsAreSequential }
+{}
+
+/// Where clusters run by themselves, each takes from its lanes what the others sent, and stamps stay
+/// below the greatest one, their logs can be merged, and what `merge` makes of them is a run of the machine.
+pub fn merged_logs_are_runs()
+    ensures { MergedLogsAreRuns }
 {}
 
 /// On a machine of one hart the records of every admissible log are a sequential run, whatever the image.
