@@ -1,5 +1,5 @@
 -- Events in turn: those of one stamp stand by cluster. Sorted by stamp, and in turn at each stamp, they rise.
-use Rattle.std.proofs.Common.{◌≡◌, ◌⊎◌, inl, inr, ℕ, suc, ◌<◌, ◌≤◌, Bool, true, false, cond, not, ◌&&◌, List, [], ◌∷◌, ◌++◌, length, refl, sym, ap, subst, nat_cmp, is_lt, arith}
+use Rattle.std.proofs.Common.{◌≡◌, ◌⊎◌, inl, inr, ℕ, suc, ◌<◌, ◌≤◌, Bool, true, false, cond, not, ◌&&◌, List, [], ◌∷◌, ◌++◌, refl, ap, subst, nat_cmp, is_lt, arith}
 use Rattle.std.specs.List.{filter, AllByRecursion as Each}
 use Rattle.std.specs.List.Sorted.{IsNonDecreasingBy, ties}
 use Rattle.std.proofs.lemmas.List.Elements.{recursion_from_All}
@@ -59,9 +59,10 @@ Up (e ∷ es) = Each (λ f. e.stamp ≤ f.stamp) es × Up es
 
 up_of : (es : List Event) → IsNonDecreasingBy (λ e. e.stamp) es → Up es
 up_of [] h = tt
-up_of (e ∷ es) h =
-    (recursion_from_All (λ f. e.stamp ≤ f.stamp) es (λ k d within. h 0 (suc k) d (omega arith) (omega arith)),
-     up_of es (λ i j d le within. h (suc i) (suc j) d (omega arith) (omega arith)))
+up_of (e ∷ es) h = (
+  recursion_from_All (λ f. e.stamp ≤ f.stamp) es (λ k d within. h 0 (suc k) d (omega arith) (omega arith)),
+  up_of es (λ i j d le within. h (suc i) (suc j) d (omega arith) (omega arith)),
+)
 
 at_most : (m n : ℕ) → m ≤ n → (m < n) ⊎ (m ≡ n)
 at_most m n le = grind (arith, nat_tests)
@@ -97,9 +98,10 @@ turn_rest e es false h = h
 
 rises_up : (es : List Event) → Up es → ((x : Event) → InTurn (filter (tie x) es)) → IsRising es
 rises_up [] up turns = tt
-rises_up (e ∷ es) up turns =
-    (precedes_all e es up.0 (turn_first e (filter (tie e) es) (tie e e) (tied e e refl) (turns e)),
-     rises_up es up.1 (λ x. turn_rest e (filter (tie x) es) (tie x e) (turns x)))
+rises_up (e ∷ es) up turns = (
+  precedes_all e es up.0 (turn_first e (filter (tie e) es) (tie e e) (tied e e refl) (turns e)),
+  rises_up es up.1 (λ x. turn_rest e (filter (tie x) es) (tie x e) (turns x)),
+)
 
 pub rises_sorted : (es : List Event) → IsNonDecreasingBy (λ e. e.stamp) es → ((x : Event) → InTurn (filter (tie x) es)) → IsRising es
 rises_sorted es sorted turns = rises_up es (up_of es sorted) turns

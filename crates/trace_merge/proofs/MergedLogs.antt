@@ -9,9 +9,9 @@ use Rattle.std.proofs.lemmas.List.Sorted.{IsPermutation-sym}
 use Rattle.dash_event.specs.declared.event.Event.{Event}
 use Rattle.dash_model.specs.Config.{Config}
 use Rattle.dash_model.specs.Part.{Part, opening_part}
-use Rattle.dash_model.specs.Machine.{Step, event_of, part_after, Precedes, PrecedesAll, IsRising}
+use Rattle.dash_model.specs.Machine.{Step, event_of, part_after, Precedes, IsRising}
 use Rattle.dash_model.specs.MachineLaws.{StampsFrom}
-use Rattle.dash_model.specs.LocalRun.{IsLocalRun, LanesMeet, StampsFit, events_of, IsMergeOf, IsMergedRun}
+use Rattle.dash_model.specs.LocalRun.{IsLocalRun, LanesMeet, StampsFit, events_of, IsMergeOf}
 use Rattle.dash_model.proofs.Changes.{stamps_rise}
 use Rattle.dash_model.proofs.Merge.{merge_is_run}
 use Rattle.trace_merge.specs.MergedLogs.{IsLogOf, log_of, AreLogs, MergesToRun}
@@ -34,9 +34,10 @@ LogsFrom k (l ∷ ls) = IsLogOf k l × LogsFrom (k + 1) ls
 
 from_each : (k : ℕ) (ls : List (List Event)) → ((c : ℕ) → c < length ls → IsLogOf (k + c) (get_or ls c [])) → LogsFrom k ls
 from_each k [] h = tt
-from_each k (l ∷ ls) h =
-    (subst (λ n. IsLogOf n l) (omega arith) (h 0 (omega arith)),
-     from_each (k + 1) ls (λ c within. let at : k + suc c ≡ k + 1 + c = omega arith in subst (λ n. IsLogOf n (get_or ls c [])) at (h (suc c) (omega arith))))
+from_each k (l ∷ ls) h = (
+  subst (λ n. IsLogOf n l) (omega arith) (h 0 (omega arith)),
+  from_each (k + 1) ls (λ c within. let at : k + suc c ≡ k + 1 + c = omega arith in subst (λ n. IsLogOf n (get_or ls c [])) at (h (suc c) (omega arith))),
+)
 
 from_logs : (ls : List (List Event)) → AreLogs ls → LogsFrom 0 ls
 from_logs ls h = from_each 0 ls (λ c within. let at : c ≡ 0 + c = omega arith in subst (λ n. IsLogOf n (get_or ls c [])) at (h c within))
@@ -114,9 +115,10 @@ stamps_above c last low (g ∷ gs) le h = let first = h.0 in (omega arith, stamp
 
 stamps_rising : (c last : ℕ) (gs : List Step) → StampsFrom ◌<◌ c last gs → IsRising (map event_of gs)
 stamps_rising c last [] h = tt
-stamps_rising c last (g ∷ gs) h =
-    (precedes_of g.event (map event_of gs) (each_weaker (λ e. g.event.stamp < e.stamp) (Precedes g.event) (λ e less. inl less) (map event_of gs) (stamps_above c g.event.stamp g.event.stamp gs (omega arith) h.2)),
-     stamps_rising c g.event.stamp gs h.2)
+stamps_rising c last (g ∷ gs) h = (
+  precedes_of g.event (map event_of gs) (each_weaker (λ e. g.event.stamp < e.stamp) (Precedes g.event) (λ e less. inl less) (map event_of gs) (stamps_above c g.event.stamp g.event.stamp gs (omega arith) h.2)),
+  stamps_rising c g.event.stamp gs h.2,
+)
 
 local_log : (w : Config) (c : ℕ) (p : Part) (gs : List Step) → IsLocalRun w c p gs → StampsFit gs → IsLogOf c (map event_of gs)
 local_log w c p gs local fit = record {

@@ -1,10 +1,10 @@
 -- Rising lists: two of them with the same events are one, and the events of one cluster rise.
-use Rattle.std.proofs.Common.{◌≡◌, ◌⊎◌, inl, inr, ℕ, ◌<◌, ◌==◌, Bool, true, false, cond, List, [], ◌∷◌, refl, sym, ◌∙◌, ap, subst, arith}
+use Rattle.std.proofs.Common.{◌≡◌, ◌⊎◌, inl, inr, ℕ, ◌==◌, Bool, true, false, cond, List, [], ◌∷◌, refl, sym, ◌∙◌, ap, subst, arith}
 use Rattle.std.specs.List.{AllByRecursion as Each}
 use Rattle.dash_event.specs.declared.event.Event.{Event}
 use Rattle.dash_model.specs.Machine.{Precedes, PrecedesAll, IsRising}
 use Rattle.dash_model.specs.LocalRun.{events_of}
-use Rattle.trace_merge.proofs.Recursion.{each_if, each_kept}
+use Rattle.trace_merge.proofs.Recursion.{each_if}
 
 pub each_of : (e : Event) (es : List Event) → PrecedesAll e es → Each (Precedes e) es
 each_of e [] h = tt

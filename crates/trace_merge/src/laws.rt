@@ -17,12 +17,6 @@ pub fn runs_are_sequential()
     ensures { RunsAreSequential }
 {}
 
-/// Where clusters run by themselves, each takes from its lanes what the others sent, and stamps stay
-/// below the greatest one, their logs can be merged, and what `merge` makes of them is a run of the machine.
-pub fn merged_logs_are_runs()
-    ensures { MergedLogsAreRuns }
-{}
-
 /// On a machine of one hart the records of every admissible log are a sequential run, whatever the image.
 pub fn one_hart_is_in_order()
     ensures { OneHartIsInOrder }
@@ -31,6 +25,13 @@ pub fn one_hart_is_in_order()
 /// A run of the records of a log leaves the console of the log.
 pub fn console_is_the_runs()
     ensures { ConsoleIsTheRuns }
+{}
+
+/// Where clusters run by themselves, each takes from its lanes what the others sent, and stamps stay
+/// below the greatest one, their logs can be merged, and what `merge` makes of them is a run of the
+/// machine. It leaves each cluster's part as its own run did, and each lane with what was not taken.
+pub fn merged_logs_are_runs()
+    ensures { MergedLogsAreRuns }
 {}
 
 /// A written log is admissible in which a hart loads its own store, commits it, and loads the version

@@ -1,4 +1,4 @@
-use Rattle.std.proofs.Common.{◌≡◌, ◌++◌, length, map, ◌∙◌, ap, subst, nat_cmp, rules}
+use Rattle.std.proofs.Common.{◌++◌, map, ◌∙◌, ap, subst, nat_cmp, rules}
 use Rattle.std.specs.List.Sorted.{IsPermutation, IsStableByKey}
 use Rattle.std.proofs.lemmas.Fn.{always_returns_same}
 use Rattle.std.proofs.lemmas.List.{length-map}
@@ -12,7 +12,7 @@ use Rattle.trace_merge.proofs.merging.merge.Goals as goal
 pub loop-log-preserved : goal.loop-log-preserved
 loop-log-preserved g c =
     one_more g.L.Logged.log c.args.logs.now c.loop-log.log-index c.log-item.result _ _ c.loop-log-test.true c.log-item.is c.loop-log.invariant
-        (c.in_ok-extend_from_slice.ensures.items ∙ ap (λ r. c.loop-log.events.items ++ r) c.events.ensures)
+    (c.in_ok-extend_from_slice.ensures.items ∙ ap (λ r. c.loop-log.events.items ++ r) c.events.ensures)
 
 pub returns : goal.returns
 returns g c =
@@ -21,7 +21,7 @@ returns g c =
     let all = all_of g.L.Logged.log c.args.logs.now c.loop-log.log-index _ c.loop-log-test.false c.loop-log.invariant ∙ joined_map g.L.Logged.log c.args.logs.now in
     let sorts = c.in_ok-sort_by_key.ensures in
     subst (λ n. IsMergeOf n (log_of logs) es) (length-map c.args.logs.now g.L.Logged.log)
-        (sorted_is_merge logs es c.requires
-            (subst (λ l. IsPermutation l es) all sorts.permutation)
-            (IsNonDecreasingBy-from_sort_by_key (λ e. e.stamp) es sorts.sorted (λ a r q k. search rules))
-            (subst (λ l. IsStableByKey (λ e. e.stamp) nat_cmp l es) all (sorts.stable (λ e. e.stamp) (always_returns_same _ _ _ (λ a r q k. search rules)))))
+    (sorted_is_merge logs es c.requires
+    (subst (λ l. IsPermutation l es) all sorts.permutation)
+    (IsNonDecreasingBy-from_sort_by_key (λ e. e.stamp) es sorts.sorted (λ a r q k. search rules))
+    (subst (λ l. IsStableByKey (λ e. e.stamp) nat_cmp l es) all (sorts.stable (λ e. e.stamp) (always_returns_same _ _ _ (λ a r q k. search rules)))))
