@@ -1,9 +1,11 @@
-//! Tests with a short log.
+//! Tests with short logs.
+ghost use Rattle.std.specs.Prelude.{◌≡◌};
 
 use dash_base::{ClusterId, HartId, LineId};
 use dash_event::{Event, EventLog, Kind, Logged};
 use dash_msg::Msg;
 use std::test::Fail;
+use trace_merge::merge;
 
 #[test]
 fn a_log_gives_its_events_in_order(rt: HostRuntime) -> Result<(), Fail> {
@@ -31,5 +33,40 @@ fn a_log_gives_its_events_in_order(rt: HostRuntime) -> Result<(), Fail> {
     assert_eq!(rt; shown.len(), 2);
     assert_eq!(rt; shown[0], asks);
     assert_eq!(rt; shown[1], takes);
+    Ok(())
+}
+
+/// An instruction that retired in this cluster, at this stamp.
+fn retires(cluster: u32, stamp: u64) -> Event
+    ensures cluster { result.cluster.0 ≡ cluster }
+    ensures stamp { result.stamp ≡ stamp }
+{
+    Event {
+        stamp,
+        cluster: ClusterId(cluster),
+        kind: Kind::Alu {
+            hart: HartId(0),
+            pc: 0,
+        },
+    }
+}
+
+#[test]
+fn logs_are_merged_by_stamp_and_then_by_cluster(rt: HostRuntime) -> Result<(), Fail> {
+    let near = Vec::from_slice(rt.alloc(), &[retires(0, 1), retires(0, 3), retires(0, 4)])?;
+    let far = Vec::from_slice(rt.alloc(), &[retires(1, 2), retires(1, 3), retires(1, 7)])?;
+    let merged = merge(
+        rt.alloc(),
+        &[EventLog { events: near }, EventLog { events: far }],
+    )?;
+    let wanted = [
+        retires(0, 1),
+        retires(1, 2),
+        retires(0, 3),
+        retires(1, 3),
+        retires(0, 4),
+        retires(1, 7),
+    ];
+    assert_eq!(rt; merged.as_slice(), wanted.as_slice());
     Ok(())
 }

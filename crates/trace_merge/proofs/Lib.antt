@@ -27,3 +27,7 @@ pub mod Consoles
 pub mod MessageRuns
 pub mod MessageSteps
 pub mod MessageLabelled
+pub mod Recursion
+pub mod Rising
+pub mod InTurn
+pub mod MergedLogs

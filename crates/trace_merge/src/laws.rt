@@ -1,5 +1,6 @@
 //! Laws of logs. The functions do nothing: their contracts are the laws.
 ghost use Rattle.trace_merge.specs.OrderLaws.{CommitOrder, ConsoleIsTheRuns, OneHartIsInOrder, RunsAreSequential};
+ghost use Rattle.trace_merge.specs.MergedLogs.{MergedLogsAreRuns};
 ghost use Rattle.trace_merge.specs.WrittenLogs.{ForwardingIsAdmissible, MessageIsAdmissible, MessageIsProperlyLabelled, MessageIsInOrder};
 
 /// Where no sequential run of an image has a data race, the records of every admissible log, each at its
@@ -24,6 +25,13 @@ pub fn one_hart_is_in_order()
 /// A run of the records of a log leaves the console of the log.
 pub fn console_is_the_runs()
     ensures { ConsoleIsTheRuns }
+{}
+
+/// Where clusters run by themselves, each takes from its lanes what the others sent, and stamps stay
+/// below the greatest one, their logs can be merged, and what `merge` makes of them is a run of the
+/// machine. It leaves each cluster's part as its own run did, and each lane with what was not taken.
+pub fn merged_logs_are_runs()
+    ensures { MergedLogsAreRuns }
 {}
 
 /// A written log is admissible in which a hart loads its own store, commits it, and loads the version

@@ -3,6 +3,8 @@
 #![tactic(auto)]
 
 pub use log::{accesses, console};
+pub use merging::merge;
 
 pub mod laws;
 mod log;
+mod merging;
