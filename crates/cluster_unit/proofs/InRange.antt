@@ -1,5 +1,5 @@
 -- The number of an enabled choice is that of a hart, a slot or a lock word.
-use Rattle.std.proofs.Common.{◌≡◌, ◌⊎◌, inl, inr, ℕ, ◌+◌, ◌-◌, ◌*◌, ◌/◌, ◌%◌, ◌<◌, ◌≤◌, Bool, true, false, nat_le, if◌then◌else◌, Option, None, Some, List, length, slice_index_or, refl, sym, ap, ◌∙◌, subst, arith}
+use Rattle.std.proofs.Common.{◌≡◌, ◌⊎◌, inl, inr, ℕ, ◌+◌, ◌-◌, ◌*◌, ◌%◌, ◌<◌, ◌≤◌, Bool, true, false, nat_le, if◌then◌else◌, None, List, slice_index_or, refl, ap, subst, arith}
 use Rattle.std.proofs.lemmas.Bool.{cases_lt}
 use Rattle.std.proofs.lemmas.List.{get_or_past}
 use Rattle.std.proofs.lemmas.Nat.{div-add-mod', mod_below}
@@ -10,7 +10,7 @@ use Rattle.remote_cache.specs.View.{count, slot_at}
 use Rattle.remote_cache.specs.Steps.{arrived_in, is_refused}
 use Rattle.queue_lock.specs.View.{is_own}
 use Rattle.queue_lock.proofs.LawsOffered.{own_below}
-use Rattle.dash_model.specs.Config.{Config, cluster_of, lock_at}
+use Rattle.dash_model.specs.Config.{Config, cluster_of}
 use Rattle.dash_model.specs.Part.{Part}
 use Rattle.dash_model.specs.HartRows.{HartEffect}
 use Rattle.dash_model.specs.Guard.{Guard}

@@ -1,4 +1,4 @@
-use Rattle.std.proofs.Common.{◌≡◌, ◌∙◌, sym}
+use Rattle.std.proofs.Common.{◌∙◌, sym}
 use Rattle.unit_rows.specs.Shown.{config, shown}
 use Rattle.cluster_unit.proofs.BusListing.{no_store, same_store, a_store}
 use Rattle.cluster_unit.proofs.bus_choices.offer_store.Goals as goal

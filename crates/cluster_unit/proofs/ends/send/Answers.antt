@@ -1,4 +1,4 @@
-use Rattle.std.proofs.Common.{◌≡◌, ℕ, ◌≤◌, ◌<◌, List, length, slice_set, slice_index_or, refl, ◌∙◌, ap, sym, subst, ◌∷◌, []}
+use Rattle.std.proofs.Common.{◌≡◌, ◌≤◌, ◌<◌, length, slice_set, slice_index_or, ◌∙◌, ap, sym, subst, ◌∷◌, []}
 use Rattle.std.proofs.lemmas.List.{get_or_default}
 use Rattle.dash_msg.specs.Classes.{class_of}
 use Rattle.mesh_lanes.specs.View.{OutletView, with_sent}
