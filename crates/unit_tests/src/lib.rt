@@ -4,15 +4,9 @@
 #![tactic(auto)]
 
 #[cfg(test)]
-mod acknowledging;
-#[cfg(test)]
 mod buffering;
 #[cfg(test)]
 mod programs;
-#[cfg(test)]
-mod refusing;
-#[cfg(test)]
-mod reserving;
 #[cfg(test)]
 mod script;
 #[cfg(test)]

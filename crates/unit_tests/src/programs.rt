@@ -8,26 +8,37 @@ use std::test::Fail;
 pub const X: u32 = 0x0000_8337;
 /// `lui t2,9` and `addi t2,t2,32`: F is at 0(t2), in the line 2306, which has another index.
 pub const F_HIGH: u32 = 0x0000_93b7;
+
 pub const F_LOW: u32 = 0x0203_8393;
 /// `addi t0,zero,1`, `addi t0,zero,5` and `addi t0,zero,42`.
 pub const ONE: u32 = 0x0010_0293;
+
 pub const FIVE: u32 = 0x0050_0293;
+
 pub const FORTY_TWO: u32 = 0x02a0_0293;
 /// `sw t0,0(t1)`, `sb t0,0(t1)`, `sw t0,4(t1)` and `sw t0,0(t2)`.
 pub const STORE_X: u32 = 0x0053_2023;
+
 pub const STORE_BYTE_X: u32 = 0x0053_0023;
+
 pub const STORE_Y: u32 = 0x0053_2223;
+
 pub const STORE_F: u32 = 0x0053_a023;
 /// `lw t3,0(t1)`, `lw t4,4(t1)`, `lw t5,0(t2)`, and `lw t3,16(t1)` of the line after X's.
 pub const LOAD_X: u32 = 0x0003_2e03;
+
 pub const LOAD_Y: u32 = 0x0043_2e83;
+
 pub const LOAD_F: u32 = 0x0003_af03;
+
 pub const LOAD_NEXT: u32 = 0x0103_2e03;
 /// `amoswap.w.rl zero,t0,(t2)` and `lr.w.aq t5,(t2)`.
 pub const RELEASE_F: u32 = 0x0a53_a02f;
+
 pub const ACQUIRE_F: u32 = 0x1403_af2f;
 /// `lr.w t3,(t1)` and `sc.w t4,t0,(t1)`.
 pub const RESERVE_X: u32 = 0x1003_2e2f;
+
 pub const STORE_RESERVED_X: u32 = 0x1853_2eaf;
 
 /// Where each hart goes to its own program, 64 bytes for each: `slli t0,a0,6`, `auipc t1,0`,

@@ -1,14 +1,13 @@
 //! Units of one machine on one thread, whose choices a test makes.
-ghost use Rattle.std.specs.Prelude.{◌≡◌, ◌<◌};
 
 use crate::programs::{STARTING, image};
-use cluster_unit::{Inlets, Turn, Unit};
-use dash_base::{ClusterId, Topology};
-use dash_event::{Access, Kind};
+use cluster_unit::{Turn, Unit, units};
+use dash_base::{HartId, Labels, Mask, Topology, WordAddr};
+use dash_event::{Access, Kind, Op, Seen};
 use std::alloc::Global;
 use std::process::Abort;
 use std::test::Fail;
-use unit_rows::{Choice, Site};
+use unit_rows::Choice;
 
 /// The units of a machine, by their clusters.
 #[derive(Drop)]
@@ -28,7 +27,7 @@ impl Script {
     ) -> Result<Script, Fail> {
         let topology = Topology::simple(clusters, harts, 100)?;
         let mut script = Script {
-            units: units(rt, alloc, topology, programs)?,
+            units: all_units(rt, alloc, topology, programs)?,
         };
         for cluster in 0..clusters {
             for hart in 0..harts {
@@ -41,7 +40,12 @@ impl Script {
     }
 
     /// What a cluster does of a choice.
-    pub fn try_perform(&mut self, rt: &impl Abort, cluster: u32, choice: Choice) -> Result<Turn, Fail> {
+    pub fn try_perform(
+        &mut self,
+        rt: &impl Abort,
+        cluster: u32,
+        choice: Choice,
+    ) -> Result<Turn, Fail> {
         assert!(rt; (cluster as usize) < self.units.len());
         let unit = &mut self.units[cluster as usize];
         unit.core.reserve(1)?;
@@ -53,6 +57,14 @@ impl Script {
     pub fn perform(&mut self, rt: &impl Abort, cluster: u32, choice: Choice) -> Result<(), Fail> {
         let turn = self.try_perform(rt, cluster, choice)?;
         assert_eq!(rt; turn, Turn::Did);
+        Ok(())
+    }
+
+    /// The first hart of a cluster does so many instructions.
+    pub fn steps(&mut self, rt: &impl Abort, cluster: u32, count: u32) -> Result<(), Fail> {
+        for _step in 0..count {
+            self.perform(rt, cluster, Choice::Step(0))?;
+        }
         Ok(())
     }
 
@@ -93,14 +105,39 @@ impl Script {
     }
 }
 
+/// An ordinary load of a whole word, from its hart's buffer at level 0 or from the cluster's copy at 1
+/// or 2.
+pub fn loaded(hart: u32, number: u32, word: u32, read: u32, seen: Seen, level: u32) -> Kind {
+    Kind::Load {
+        access: Access {
+            hart: HartId(hart),
+            number,
+            op: Op::Load,
+            labels: Labels {
+                aq: false,
+                rl: false,
+            },
+            word: WordAddr(word),
+            mask: Mask::new(15),
+            read: Some(read),
+            written: None,
+            seen,
+        },
+        level,
+    }
+}
+
 /// The units of a machine, which choose in rotation.
-fn units(
+fn all_units(
     rt: &impl Abort,
     alloc: Global,
     topology: Topology,
     programs: [&[u32]; 4],
 ) -> Result<Vec<Unit>, Fail> {
-    let mut inlets = Inlets::new(alloc, topology.clusters)?;
-    let mut units = Vec::new(alloc);
-    units
+    let mut images = Vec::new(alloc);
+    for _cluster in 0..topology.clusters {
+        images.push(image(alloc, programs)?)?;
+    }
+    assert!(rt; images.len() == topology.clusters as usize);
+    Ok(units(alloc, &topology, images)?)
 }
