@@ -4,9 +4,17 @@
 #![tactic(auto)]
 
 #[cfg(test)]
+mod acknowledging;
+#[cfg(test)]
 mod buffering;
 #[cfg(test)]
 mod programs;
+#[cfg(test)]
+mod refusing;
+#[cfg(test)]
+mod releasing;
+#[cfg(test)]
+mod reserving;
 #[cfg(test)]
 mod script;
 #[cfg(test)]

@@ -24,7 +24,10 @@ pub const STORE_BYTE_X: u32 = 0x0053_0023;
 pub const STORE_Y: u32 = 0x0053_2223;
 
 pub const STORE_F: u32 = 0x0053_a023;
-/// `lw t3,0(t1)`, `lw t4,4(t1)`, `lw t5,0(t2)`, and `lw t3,16(t1)` of the line after X's.
+/// `sw t0,16(t1)`, to the line after X's.
+pub const STORE_NEXT: u32 = 0x0053_2823;
+/// `lw t3,0(t1)`, `lw t4,4(t1)`, `lw t5,0(t2)`, `lw t3,16(t1)` of the line after X's, and
+/// `lw t5,-16(t2)` of the line before F's, whose index is that of the line after X's.
 pub const LOAD_X: u32 = 0x0003_2e03;
 
 pub const LOAD_Y: u32 = 0x0043_2e83;
@@ -32,10 +35,20 @@ pub const LOAD_Y: u32 = 0x0043_2e83;
 pub const LOAD_F: u32 = 0x0003_af03;
 
 pub const LOAD_NEXT: u32 = 0x0103_2e03;
+
+pub const LOAD_BEFORE_F: u32 = 0xff03_af03;
 /// `amoswap.w.rl zero,t0,(t2)` and `lr.w.aq t5,(t2)`.
 pub const RELEASE_F: u32 = 0x0a53_a02f;
 
 pub const ACQUIRE_F: u32 = 0x1403_af2f;
+/// `addi t3,t2,-16`, `amoswap.w.rl zero,t0,(t3)` and `lr.w.aq t6,(t3)`: G is in the line before F's.
+pub const G: u32 = 0xff03_8e13;
+
+pub const RELEASE_G: u32 = 0x0a5e_202f;
+
+pub const ACQUIRE_G: u32 = 0x140e_2faf;
+/// `bne t5,t0,8`, over the next instruction where the word that was loaded last is not 1.
+pub const SKIP_UNLESS_ONE: u32 = 0x005f_1463;
 /// `lr.w t3,(t1)` and `sc.w t4,t0,(t1)`.
 pub const RESERVE_X: u32 = 0x1003_2e2f;
 
