@@ -11,6 +11,7 @@ pub mod Messages
 pub mod Reserving
 pub mod Choosing
 pub mod Takes
+pub mod Fresh
 pub mod Meeting
 pub mod Picking
 pub mod Acting

@@ -1,6 +1,7 @@
 //! A cluster as a unit: what it may do next, and each event that it does as a step of the written machine.
 #![tactic(auto)]
 
+pub use fresh_units::units;
 pub use meeting::meet_units;
 pub use turn::Turn;
 pub use unit::Unit;
@@ -14,6 +15,8 @@ mod enabled;
 mod ends;
 mod events;
 mod evict_choices;
+mod fresh_lanes;
+mod fresh_units;
 mod grants;
 mod list;
 mod listing;
