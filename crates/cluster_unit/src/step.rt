@@ -23,7 +23,9 @@ pub fn fits_step(site: &Site, parts: &Parts, hart: u32) -> bool
 {
     parts.bus.keeps_one_map();
     parts.slots.keeps_one_slot_a_line();
-    let need = parts.locals[hart as usize].core.next(&site.image, &site.topology);
+    let need = parts.locals[hart as usize]
+        .core
+        .next(&site.image, &site.topology);
     match need {
         Need::Rest => false,
         Need::Alu => true,
@@ -39,7 +41,10 @@ pub fn fits_step(site: &Site, parts: &Parts, hart: u32) -> bool
         } => fits_load(site, parts, hart, word, mask, reserve).is_some(),
         Need::Store { .. } => fits_store(site, parts, hart),
         Need::Rmw {
-            word, op, labels, ..
+            word,
+            op,
+            labels,
+            ..
         } => fits_atomic(site, parts, hart, word, op, labels).is_some(),
         Need::Ask { .. } => fits_ask(site, parts, hart),
         Need::Unlock { .. } => fits_unlock(site, parts, hart),
@@ -55,7 +60,9 @@ pub fn step(site: &Site, parts: &mut Parts, hart: u32) -> Option<(Kind, Option<S
     ensures unchanged { IfNone result (shown parts.new ≡ shown parts.old) }
     ensures sized { AreSized (config site.now) site.now.cluster.0 (shown parts.new) }
 {
-    let need = parts.locals[hart as usize].core.next(&site.image, &site.topology);
+    let need = parts.locals[hart as usize]
+        .core
+        .next(&site.image, &site.topology);
     match need {
         Need::Rest => None,
         Need::Alu => Some((alu(site, parts, hart), None)),

@@ -1,5 +1,5 @@
 -- A choice of a line, a slot or a lock word is enabled where the code's parts let it be done.
-use Rattle.std.proofs.Common.{◌≡◌, ℕ, ◌<◌, ◌==◌, ◌&&◌, Bool, true, false, not, Some, List, [], ◌∷◌, length, slice_get, slice_set, refl}
+use Rattle.std.proofs.Common.{◌≡◌, ℕ, ◌<◌, ◌==◌, ◌&&◌, Bool, true, false, not, Some, List, [], ◌∷◌, slice_get, slice_set, refl}
 use Rattle.std.specs.Prelude.{unwrap_or}
 use Rattle.dash_base.specs.declared.id.LineId.{LineId}
 use Rattle.dash_base.specs.declared.id.WordAddr.{WordAddr}

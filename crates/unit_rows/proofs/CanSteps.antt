@@ -9,7 +9,6 @@ use Rattle.dash_base.specs.declared.ops.AmoOp.TheVariants.{Sc}
 use Rattle.dash_base.specs.declared.need.HintKind.{HintKind}
 use Rattle.dash_base.specs.declared.need.Need.{Need}
 use Rattle.dash_base.specs.declared.need.Need.TheVariants as needed
-use Rattle.dash_base.specs.Places.{home_among}
 use Rattle.dash_event.specs.Offered.{bytes_under}
 use Rattle.dash_event.specs.declared.event.Kind.TheVariants as kind
 use Rattle.hart_core.specs.Access.{in_memory}
@@ -30,7 +29,7 @@ use Rattle.unit_rows.specs.declared.outcome.Outcome.TheVariants.{Fails, Writes}
 use Rattle.unit_rows.specs.declared.parts.Local.{Local}
 use Rattle.unit_rows.specs.declared.source.Source.{Source}
 use Rattle.unit_rows.specs.declared.source.Source.TheVariants.{Stored, Held}
-use Rattle.unit_rows.specs.Hints.{HintFits, OpensJust}
+use Rattle.unit_rows.specs.Hints.{OpensJust}
 use Rattle.unit_rows.specs.LineNeeds.{fails}
 use Rattle.unit_rows.specs.Rows.{Can}
 use Rattle.unit_rows.specs.Shown.{PartsView, hart_at, AreSized}

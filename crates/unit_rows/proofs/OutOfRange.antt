@@ -1,12 +1,12 @@
 -- A choice whose hart or slot the cluster does not have is enabled on no part.
-use Rattle.std.proofs.Common.{◌≡◌, ℕ, ◌+◌, ◌*◌, ◌<◌, ◌≤◌, None, refl, sym, ap, ◌∙◌, subst, arith}
+use Rattle.std.proofs.Common.{◌≡◌, ℕ, ◌≤◌, None, refl, ap, subst, arith}
 use Rattle.std.proofs.lemmas.List.{get_or_past}
 use Rattle.dash_base.specs.declared.id.LineId.{LineId}
 use Rattle.dash_event.specs.declared.event.Kind.{Kind}
 use Rattle.dash_event.specs.declared.event.Kind.TheVariants as kind
 use Rattle.remote_cache.specs.Steps.{is_refused, arrived_in}
 use Rattle.remote_cache.specs.View.{slot_at, count}
-use Rattle.dash_model.specs.Config.{Config, cluster_of, front_slot}
+use Rattle.dash_model.specs.Config.{Config, cluster_of}
 use Rattle.dash_model.specs.Guard.{Guard}
 use Rattle.dash_model.specs.HartRows.{HartEffect}
 use Rattle.dash_model.specs.Part.{Part}

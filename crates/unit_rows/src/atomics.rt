@@ -127,13 +127,7 @@ fn rmw(
 
 /// The copy of a word's line, where a hart may do an atomic operation that writes to the word: the hart
 /// is in state M on the line, and free to commit.
-fn writable(
-    site: &Site,
-    parts: &Parts,
-    hart: u32,
-    word: WordAddr,
-    labels: Labels,
-) -> Option<Line>
+fn writable(site: &Site, parts: &Parts, hart: u32, word: WordAddr, labels: Labels) -> Option<Line>
     requires sized { AreSized (config site.now) site.now.cluster.0 (shown parts.now) }
     requires hart { hart < site.now.topology.harts }
     ensures fits { IfSome result (λ copy. AtomicFits (config site.now) (shown parts.now) hart word labels copy) }
