@@ -18,7 +18,7 @@ use Rattle.unit_rows.specs.Choices.{IsOf}
 use Rattle.unit_rows.specs.Rows.{Enabled}
 use Rattle.cluster_unit.specs.Order.{kind_place, number_in, IsBefore}
 use Rattle.cluster_unit.specs.Listing.{Offers, HasListed, IsBelow, IsReadOf, IsOwnOf, IsRead, IsWritten}
-use Rattle.cluster_unit.proofs.Listing.{is_before, number_over, one_more, regraded}
+use Rattle.cluster_unit.proofs.Offering.{is_before, number_over, one_more, regraded}
 
 -- what enabled choices need
 read_by : (w : Config) (c k : ℕ) (l : LineId) (p : Part) (e : Kind) (d : HartEffect) → IsOf w c (choice.BusRead k l) e → Guard w c e d p → NeedsCopy w (hart_at w c k) l.0 p

@@ -11,7 +11,7 @@ use Rattle.unit_rows.specs.Rows.{Enabled}
 use Rattle.cluster_unit.specs.Order.{kind_place, number_in, IsBefore}
 use Rattle.cluster_unit.specs.Listing.{Offers, HasListed, IsBelow}
 use Rattle.cluster_unit.specs.Victims.{IsRising, IsAmong, HasVictims}
-use Rattle.cluster_unit.proofs.Listing.{is_before, number_over, one_more, regraded}
+use Rattle.cluster_unit.proofs.Offering.{is_before, number_over, one_more, regraded}
 
 -- a choice of hart k to give up one of the first n lines
 abbrev pub IsEvictOf : ℕ → List ℕ → ℕ → Choice → Type 0

@@ -7,7 +7,7 @@ pub mod TakesListed
 pub mod Listed
 pub mod Turning
 pub mod EndsMet
-pub mod Listing
+pub mod Offering
 pub mod InRange
 pub mod BusListing
 pub mod LockListing

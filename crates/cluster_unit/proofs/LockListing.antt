@@ -18,7 +18,7 @@ use Rattle.unit_rows.specs.Rows.{Enabled, Cannot}
 use Rattle.unit_rows.proofs.LawsOffered.{own_of}
 use Rattle.cluster_unit.specs.Order.{kind_place, number_in}
 use Rattle.cluster_unit.specs.Listing.{Offers, LeftOut, HasListed, IsBelow}
-use Rattle.cluster_unit.proofs.Listing.{regraded, one_alone}
+use Rattle.cluster_unit.proofs.Offering.{regraded, one_alone}
 use Rattle.cluster_unit.proofs.InRange.{grants_own}
 
 some_wait : (xs : List Asker) (y : Waiter) (ys : List Waiter) → map waiter_by xs ≡ y ∷ ys → 0 < length xs

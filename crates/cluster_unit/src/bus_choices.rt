@@ -1,6 +1,7 @@
 //! Which lines harts may get from their cluster.
 ghost use Rattle.std.specs.Prelude.{◌≡◌, ◌+◌, ◌*◌, ◌<◌, ◌≤◌, vec_len, vec_capacity};
 ghost use Rattle.dash_model.specs.Wants.{FrontNeed};
+ghost use Rattle.unit_rows.specs.AskFits.{StoresAreOfMemory};
 ghost use Rattle.unit_rows.specs.LineNeeds.{IsNeeded};
 ghost use Rattle.unit_rows.specs.Shown.{config, shown, hart_at, AreSized};
 ghost use Rattle.cluster_unit.specs.Listing.{HasListed, IsBelow, IsRead, IsWritten};
@@ -13,6 +14,7 @@ use unit_rows::{Choice, Parts, Site, is_this, needed_copy, needed_store, needed_
 /// and then for its oldest store.
 pub fn list_bus(site: &Site, parts: &Parts, choices: &mut Vec<Choice>)
     requires sized { AreSized (config site.now) site.now.cluster.0 (shown parts.now) }
+    requires stores { StoresAreOfMemory (config site.now) (shown parts.now) }
     requires room { vec_len choices.old + 3 * site.now.topology.harts ≤ vec_capacity choices.old }
     requires before { HasListed (config site.now) site.now.cluster.0 (shown parts.now) (IsBelow 3 0) choices.old.items }
     ensures listed { HasListed (config site.now) site.now.cluster.0 (shown parts.now) (IsBelow 3 site.now.topology.harts) choices.new.items }
@@ -27,6 +29,7 @@ pub fn list_bus(site: &Site, parts: &Parts, choices: &mut Vec<Choice>)
 /// Lists those of one hart.
 fn list_bus_of(site: &Site, parts: &Parts, hart: u32, choices: &mut Vec<Choice>)
     requires sized { AreSized (config site.now) site.now.cluster.0 (shown parts.now) }
+    requires stores { StoresAreOfMemory (config site.now) (shown parts.now) }
     requires hart { hart < site.now.topology.harts }
     requires room { vec_len choices.old + 3 ≤ vec_capacity choices.old }
     requires before { HasListed (config site.now) site.now.cluster.0 (shown parts.now) (IsBelow 3 hart) choices.old.items }
@@ -44,6 +47,7 @@ fn list_bus_of(site: &Site, parts: &Parts, hart: u32, choices: &mut Vec<Choice>)
 /// enabled.
 fn offer_read(site: &Site, parts: &Parts, hart: u32, choices: &mut Vec<Choice>)
     requires sized { AreSized (config site.now) site.now.cluster.0 (shown parts.now) }
+    requires stores { StoresAreOfMemory (config site.now) (shown parts.now) }
     requires hart { hart < site.now.topology.harts }
     requires room { vec_len choices.old < vec_capacity choices.old }
     requires before { HasListed (config site.now) site.now.cluster.0 (shown parts.now) (IsBelow 3 hart) choices.old.items }
@@ -67,6 +71,7 @@ fn offer_write(
     choices: &mut Vec<Choice>,
 )
     requires sized { AreSized (config site.now) site.now.cluster.0 (shown parts.now) }
+    requires stores { StoresAreOfMemory (config site.now) (shown parts.now) }
     requires hart { hart < site.now.topology.harts }
     requires room { vec_len choices.old < vec_capacity choices.old }
     requires before { HasListed (config site.now) site.now.cluster.0 (shown parts.now) (IsRead hart) choices.old.items }
@@ -90,6 +95,7 @@ fn offer_store(
     choices: &mut Vec<Choice>,
 )
     requires sized { AreSized (config site.now) site.now.cluster.0 (shown parts.now) }
+    requires stores { StoresAreOfMemory (config site.now) (shown parts.now) }
     requires hart { hart < site.now.topology.harts }
     requires room { vec_len choices.old < vec_capacity choices.old }
     requires needed { IsNeeded (λ q p. FrontNeed (config site.now) (hart_at (config site.now) site.now.cluster.0 hart) q p) (config site.now) site.now.cluster.0 (shown parts.now) written }

@@ -1,5 +1,6 @@
 //! Choices that go by one number alone, and are listed by it.
 ghost use Rattle.std.specs.Prelude.{◌≡◌, ◌+◌, ◌≤◌, vec_len, vec_capacity};
+ghost use Rattle.unit_rows.specs.AskFits.{StoresAreOfMemory};
 ghost use Rattle.unit_rows.specs.Shown.{config, shown, AreSized};
 ghost use Rattle.cluster_unit.specs.Listing.{HasListed, IsBelow, choice_of, place_of};
 
@@ -38,6 +39,7 @@ pub fn list_by_number(
     choices: &mut Vec<Choice>,
 )
     requires sized { AreSized (config site.now) site.now.cluster.0 (shown parts.now) }
+    requires stores { StoresAreOfMemory (config site.now) (shown parts.now) }
     requires room { vec_len choices.old + count ≤ vec_capacity choices.old }
     requires before { HasListed (config site.now) site.now.cluster.0 (shown parts.now) (IsBelow (place_of kind) 0) choices.old.items }
     ensures listed { HasListed (config site.now) site.now.cluster.0 (shown parts.now) (IsBelow (place_of kind) count) choices.new.items }

@@ -1,5 +1,6 @@
 //! Which lines harts may give up.
 ghost use Rattle.std.specs.Prelude.{◌≡◌, ◌+◌, ◌*◌, ◌<◌, ◌≤◌, length, vec_len, vec_capacity};
+ghost use Rattle.unit_rows.specs.AskFits.{StoresAreOfMemory};
 ghost use Rattle.unit_rows.specs.Shown.{config, shown, AreSized};
 ghost use Rattle.cluster_unit.specs.Listing.{HasListed, IsBelow};
 ghost use Rattle.cluster_unit.specs.Victims.{IsRising, HasVictims};
@@ -12,6 +13,7 @@ use unit_rows::{Choice, Parts, Site};
 /// Lists the enabled choices of harts to give up a line, by hart and then by line.
 pub fn list_evictions(site: &Site, parts: &Parts, choices: &mut Vec<Choice>)
     requires sized { AreSized (config site.now) site.now.cluster.0 (shown parts.now) }
+    requires stores { StoresAreOfMemory (config site.now) (shown parts.now) }
     requires room { vec_len choices.old + 19 * site.now.topology.harts ≤ vec_capacity choices.old }
     requires before { HasListed (config site.now) site.now.cluster.0 (shown parts.now) (IsBelow 4 0) choices.old.items }
     ensures listed { HasListed (config site.now) site.now.cluster.0 (shown parts.now) (IsBelow 4 site.now.topology.harts) choices.new.items }
@@ -26,6 +28,7 @@ pub fn list_evictions(site: &Site, parts: &Parts, choices: &mut Vec<Choice>)
 /// Lists those of one hart, by line.
 fn list_evictions_of(site: &Site, parts: &Parts, hart: u32, choices: &mut Vec<Choice>)
     requires sized { AreSized (config site.now) site.now.cluster.0 (shown parts.now) }
+    requires stores { StoresAreOfMemory (config site.now) (shown parts.now) }
     requires hart { hart < site.now.topology.harts }
     requires room { vec_len choices.old + 19 ≤ vec_capacity choices.old }
     requires before { HasListed (config site.now) site.now.cluster.0 (shown parts.now) (IsBelow 4 hart) choices.old.items }
@@ -40,6 +43,7 @@ fn list_evictions_of(site: &Site, parts: &Parts, hart: u32, choices: &mut Vec<Ch
 /// Lists those of one hart that are among these lines, which rise: each line that it may give up is.
 fn offer_evictions(site: &Site, parts: &Parts, hart: u32, lines: &[u32], choices: &mut Vec<Choice>)
     requires sized { AreSized (config site.now) site.now.cluster.0 (shown parts.now) }
+    requires stores { StoresAreOfMemory (config site.now) (shown parts.now) }
     requires rising { IsRising lines.now }
     requires whole { HasVictims (config site.now) site.now.cluster.0 (shown parts.now) hart lines.now }
     requires room { vec_len choices.old + length lines.now ≤ vec_capacity choices.old }

@@ -1,5 +1,6 @@
 //! A choice that is put into a list where it is enabled.
 ghost use Rattle.std.specs.Prelude.{◌≡◌, ◌+◌, ◌<◌, ◌≤◌, false, vec_len, vec_capacity};
+ghost use Rattle.unit_rows.specs.AskFits.{StoresAreOfMemory};
 ghost use Rattle.unit_rows.specs.Shown.{config, shown, AreSized};
 ghost use Rattle.cluster_unit.specs.Enabling.{is_take};
 ghost use Rattle.cluster_unit.specs.Listing.{Offers};
@@ -10,6 +11,7 @@ use unit_rows::{Choice, Parts, Site};
 /// Puts a choice at the end of a list where it is enabled. It takes no memory.
 pub fn offer(site: &Site, parts: &Parts, choice: Choice, choices: &mut Vec<Choice>)
     requires sized { AreSized (config site.now) site.now.cluster.0 (shown parts.now) }
+    requires stores { StoresAreOfMemory (config site.now) (shown parts.now) }
     requires own { is_take choice ≡ false }
     requires room { vec_len choices.old < vec_capacity choices.old }
     ensures offers { Offers (config site.now) site.now.cluster.0 (shown parts.now) choice choices.old.items choices.new.items }

@@ -2,7 +2,7 @@ use Rattle.std.proofs.Common.{◌≡◌, ◌+◌, ◌<◌, ◌≤◌, vec_len, v
 use Rattle.unit_rows.specs.Shown.{config, shown}
 use Rattle.cluster_unit.specs.Enabling.{is_take}
 use Rattle.cluster_unit.specs.Listing.{HasListed, IsBelow, place_of}
-use Rattle.cluster_unit.proofs.Listing.{is_own, one_numbered}
+use Rattle.cluster_unit.proofs.Offering.{is_own, one_numbered}
 use Rattle.cluster_unit.proofs.by_number.list_by_number.Goals as goal
 
 pub offer-requires-clause-own : goal.offer-requires-clause-own

@@ -13,4 +13,4 @@ returns-clause-whole c =
     let copy = kept_victim v.bus k c.needed_copy-copy.result _ _ c.add_victim-3.ensures.keeps (kept_victim v.bus k c.needed_copy-copy.result _ _ c.add_victim-2.ensures.keeps c.add_victim.ensures.has) in
     let write = kept_victim v.bus k c.needed_write-write.result _ _ c.add_victim-3.ensures.keeps c.add_victim-2.ensures.has in
     all_victims w c.args.site.now.cluster.0 k v _ c.needed_copy-copy.result c.needed_write-write.result c.needed_store-store.result came
-    c.needed_copy-copy.ensures c.needed_write-write.ensures c.needed_store-store.ensures copy write c.add_victim-3.ensures.has c.requires.hart c.requires.sized
+    c.needed_copy-copy.ensures.needed c.needed_write-write.ensures.needed c.needed_store-store.ensures.needed copy write c.add_victim-3.ensures.has c.requires.hart c.requires.sized
