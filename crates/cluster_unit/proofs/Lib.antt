@@ -15,3 +15,5 @@ pub mod InTheWay
 pub mod EvictListing
 pub mod Fitting
 pub mod ByChoice
+pub mod FirstOnes
+pub mod SettleTurns

@@ -10,6 +10,8 @@ pub mod Turns
 pub mod Messages
 pub mod Reserving
 pub mod Choosing
+pub mod Settling
+pub mod Searching
 pub mod Takes
 pub mod Meeting
 pub mod Picking

@@ -26,6 +26,7 @@ pub use requests::{again, fits_again, fits_request, request};
 pub use site::Site;
 pub use source::Source;
 pub use stores::{fits_store, store};
+pub use ways::in_the_way;
 
 mod atomics;
 mod burst;
@@ -56,3 +57,4 @@ mod source;
 mod stores;
 mod sweep;
 mod wanted;
+mod ways;

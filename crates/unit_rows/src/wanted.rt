@@ -34,7 +34,7 @@ pub fn wants_other(site: &Site, parts: &Parts, hart: u32, line: LineId) -> bool
 }
 
 /// Whether another line with the index of this one came to a slot of a hart.
-fn comes_other(site: &Site, slots: &Slots, hart: u32, line: LineId) -> bool
+pub fn comes_other(site: &Site, slots: &Slots, hart: u32, line: LineId) -> bool
     ensures { SlotTells (config site.now) slots.now hart line.0 result }
 {
     for id in 0..slots.count() {
