@@ -1,6 +1,8 @@
 -- The first choice by which a cluster settles, as a search finds it.
 use Rattle.std.proofs.Common.{◌≡◌, ◌≢◌, ◌⊎◌, inl, inr, ℕ, ◌+◌, ◌*◌, ◌<◌, ◌≤◌, Bool, true, false, Option, None, Some, List, length, slice_index_or, slice_get, refl, sym, ap, ◌∙◌, subst, arith}
 use Rattle.std.proofs.lemmas.Bool.{cases_lt}
+use Rattle.std.specs.Prelude.{Vec}
+use Rattle.std.specs.Vec.{with_items}
 use Rattle.dash_base.specs.declared.id.LineId.{LineId}
 use Rattle.dash_base.specs.declared.id.ClusterId.{ClusterId}
 use Rattle.dash_msg.specs.declared.classes.Class.{Class}
@@ -16,14 +18,14 @@ use Rattle.unit_rows.specs.Shown.{PartsView, Shows, AreSized}
 use Rattle.unit_rows.specs.Rows.{Enabled, Can, Cannot}
 use Rattle.cluster_unit.specs.Enabling.{is_take}
 use Rattle.cluster_unit.specs.View.{CoreView}
-use Rattle.cluster_unit.specs.Ends.{place, knows}
+use Rattle.cluster_unit.specs.Ends.{place, knows, Looked}
 use Rattle.cluster_unit.specs.Order.{number_in, IsSooner}
 use Rattle.cluster_unit.specs.Core.{IsAt, IsCore}
 use Rattle.cluster_unit.specs.Choosing.{Shown, MayDo}
 use Rattle.cluster_unit.specs.Settling.{IsSettling, SettlesBefore, IsFirstToSettle, FirstToSettle}
 use Rattle.cluster_unit.specs.Searching.{IsFirstClass, FirstClass, IsFirstTake, FirstTake, IsFirstOf, FirstOf, CannotSettle, IsWay, IsFirstLine, FirstLine, IsFirstHart, FirstHart, IsFirstOwn, FirstOwn, FirstAfter}
 use Rattle.cluster_unit.specs.Victims.{IsRising, IsIn, HasVictims}
-use Rattle.cluster_unit.proofs.Cores.{shows_at}
+use Rattle.cluster_unit.proofs.Cores.{shows_at, ends_back}
 use Rattle.cluster_unit.proofs.InTheWay.{rises_slowly}
 use Rattle.cluster_unit.proofs.InRange.{below_limit}
 use Rattle.cluster_unit.proofs.LockListing.{no_grant}
@@ -52,6 +54,10 @@ module _ (w : Config) (c : ℕ) (v : PartsView) (sized : AreSized w c v) where
 
 -- of harts and lines
 module _ (w : Config) (c k : ℕ) (v : PartsView) (ls : List ℕ) (whole : HasVictims w c v k ls) where
+  pub none_of_next : (n x : ℕ) → x ≡ slice_index_or ls n 0 → ((i : ℕ) → i < n → CannotSettle w c v (choice.Evict k (line_id (slice_index_or ls i 0)))) → CannotSettle w c v (choice.Evict k (line_id x))
+      → (i : ℕ) → i < n + 1 → CannotSettle w c v (choice.Evict k (line_id (slice_index_or ls i 0)))
+  none_of_next n x is before now = so_far (λ i. CannotSettle w c v (choice.Evict k (line_id (slice_index_or ls i 0)))) n before (subst (λ y. CannotSettle w c v (choice.Evict k (line_id y))) is now)
+
   pub none_of_lines : (n : ℕ) → length ls ≤ n → ((i : ℕ) → i < n → CannotSettle w c v (choice.Evict k (line_id (slice_index_or ls i 0)))) → (m : LineId) → CannotSettle w c v (choice.Evict k m)
   none_of_lines n all before m p shows able way =
       let there = whole m p shows able in
@@ -145,7 +151,7 @@ not_later n over (inr same) = let e = same.0 in omega (arith, over, e)
 
 -- from the parts to the core
 module _ (v : PartsView) (last : ℕ) (a : CoreView) (capacity : ℕ) (inlets : List InletView) (core : IsCore v last a capacity) where
-  seen : CoreView
+  abbrev pub seen : CoreView
   seen = record a { inlets = inlets }
 
   shown : (p : Part) → IsAt seen p → Shows a.config a.cluster v p
@@ -176,7 +182,8 @@ module _ (v : PartsView) (last : ℕ) (a : CoreView) (capacity : ℕ) (inlets : 
   before_take f k (choice.Take g j) p one before may (inl less) = omega (arith, less)
   before_take f k (choice.Take g j) p one before may (inr (e, inl less)) = let t : true ≡ false = sym may.some ∙ before g.0 j less in absurd (cc)
   before_take f Reply (choice.Take g Request) p one before may (inr (e, inr (same, sooner))) = let t : true ≡ false = sym may.some ∙ ap (λ n. knows (slice_get inlets (place n Request))) same ∙ one.before refl in absurd (cc)
-  before_take f Request (choice.Take g j) p one before may (inr (e, inr (same, sooner))) = absurd sooner
+  before_take f Request (choice.Take g Request) p one before may (inr (e, inr (same, sooner))) = absurd sooner
+  before_take f Request (choice.Take g Reply) p one before may (inr (e, inr (same, sooner))) = absurd sooner
   before_take f Reply (choice.Take g Reply) p one before may (inr (e, inr (same, sooner))) = absurd sooner
   before_take f k (choice.Step h) p one before may sooner = not_later 5 (omega arith) sooner
   before_take f k (choice.Commit h) p one before may sooner = not_later 5 (omega arith) sooner
@@ -200,3 +207,8 @@ module _ (v : PartsView) (last : ℕ) (a : CoreView) (capacity : ℕ) (inlets : 
   first_to_settle None (Some x) takes others = λ p at. first_own x p takes others at
   first_to_settle (Some x) found takes is =
       subst (FirstToSettle seen) (sym is) (λ p at. subst (λ y. IsFirstToSettle seen y p) (sym takes.is) (first_shown takes.from takes.class p takes.below takes.first takes.before))
+
+  -- the ends come back
+  pub first_back : {Z : Type 0} (ins : Vec InletView Z) (lent : List InletView) (take found : Option Choice) → lent ≡ a.inlets → length lent ≡ ins.len → Looked lent inlets → FirstTake inlets a.config.top.clusters take → FirstAfter a.config a.cluster v take found
+      → FirstToSettle (record a { inlets = (with_items ins inlets).items }) found
+  first_back ins lent take found is len looked takes after = subst (λ xs. FirstToSettle (record a { inlets = xs }) found) (sym (ends_back ins lent inlets len looked.count)) (first_to_settle take found takes after)
