@@ -1,5 +1,5 @@
 -- The choices of a hart to get a line from its cluster, in their order.
-use Rattle.std.proofs.Common.{◌≡◌, ◌≢◌, ◌⊎◌, inl, inr, ℕ, ◌+◌, ◌<◌, ◌≤◌, ◌==◌, Bool, true, false, Option, None, Some, List, refl, sym, ap, ap₂, ◌∙◌, subst, arith}
+use Rattle.std.proofs.Common.{◌≡◌, ◌≢◌, ◌⊎◌, inl, inr, ℕ, ◌+◌, ◌<◌, ◌≤◌, ◌==◌, true, false, Option, None, Some, List, refl, sym, ap, ap₂, ◌∙◌, subst, arith}
 use Rattle.std.proofs.lemmas.Bool.{cases_lt}
 use Rattle.std.proofs.lemmas.Bool.Decides.{nat_tests}
 use Rattle.dash_base.specs.declared.id.LineId.{LineId}
@@ -17,7 +17,7 @@ use Rattle.unit_rows.specs.LineNeeds.{is_this, IsNeeded}
 use Rattle.unit_rows.specs.Choices.{IsOf}
 use Rattle.unit_rows.specs.Rows.{Enabled}
 use Rattle.cluster_unit.specs.Order.{kind_place, number_in, IsBefore}
-use Rattle.cluster_unit.specs.Listing.{Offers, HasListed, IsBelow, IsReadOf, IsOwnOf, IsRead, IsWritten}
+use Rattle.cluster_unit.specs.Listing.{Offers, HasListed, IsBelow, IsOwnOf, IsRead, IsWritten}
 use Rattle.cluster_unit.proofs.Offering.{is_before, number_over, one_more, regraded}
 
 -- what enabled choices need

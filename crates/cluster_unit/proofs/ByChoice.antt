@@ -1,5 +1,5 @@
 -- Whether a choice is enabled, and what was done, by the call for its kind.
-use Rattle.std.proofs.Common.{◌≡◌, ℕ, ◌<◌, ◌≤◌, Bool, true, false, Option, None, Some, List, [], ◌∷◌, is_some, option_to_list, refl, sym, subst}
+use Rattle.std.proofs.Common.{◌≡◌, ℕ, ◌<◌, true, false, Option, None, Some, [], ◌∷◌, is_some, option_to_list, sym, subst}
 use Rattle.std.specs.Prelude.{IfSome, IfNone}
 use Rattle.dash_event.specs.declared.event.Kind.{Kind}
 use Rattle.dash_msg.specs.declared.parcel.Sent.{Sent}

@@ -1,5 +1,5 @@
 -- What a core keeps, where an event is done or a turn is used.
-use Rattle.std.proofs.Common.{◌≡◌, ◌≢◌, ◌==◌, ℕ, ◌+◌, ◌-◌, ◌*◌, ◌^◌, ◌<◌, ◌≤◌, min, max, nat_lt, cond, Bool, true, false, Option, None, Some, List, [], ◌∷◌, ◌++◌, length, map, option_to_list, slice_index_or, refl, sym, ap, ◌∙◌, subst, arith}
+use Rattle.std.proofs.Common.{◌≡◌, ◌==◌, ℕ, ◌+◌, ◌-◌, ◌*◌, ◌<◌, ◌≤◌, min, max, nat_lt, cond, Bool, true, false, Option, None, Some, List, [], ◌∷◌, ◌++◌, length, map, option_to_list, slice_index_or, refl, sym, ap, ◌∙◌, subst, arith}
 use Rattle.std.proofs.lemmas.Bool.Decides.{nat_tests}
 use Rattle.std.proofs.lemmas.List.{length-append, append-nil, with_items_is}
 use Rattle.std.specs.Prelude.{Vec}
@@ -28,7 +28,7 @@ use Rattle.unit_rows.specs.Shown.{PartsView, hart_at, Shows, AreSized}
 use Rattle.unit_rows.specs.Opening.{IsOpening}
 use Rattle.unit_rows.specs.declared.parts.Local.{Local}
 use Rattle.unit_rows.specs.Rows.{Does, Cannot, DoesChoice}
-use Rattle.unit_rows.specs.Local.{IsLocal, event_at}
+use Rattle.unit_rows.specs.Local.{event_at}
 use Rattle.unit_rows.proofs.LawsOffered.{local_more, opening_shows, opening_sized}
 use Rattle.cluster_unit.specs.Enabling.{is_take}
 use Rattle.cluster_unit.specs.View.{CoreView}

@@ -1,5 +1,5 @@
 -- A hart's next instruction: whether it is enabled, by what the calls for its need tell; and what a row answers.
-use Rattle.std.proofs.Common.{◌≡◌, ◌≢◌, ℕ, ◌<◌, Bool, true, false, Option, None, Some, List, [], ◌∷◌, is_some, option_to_list, slice_index_or, ◌↔◌, refl, sym, ◌∙◌, subst}
+use Rattle.std.proofs.Common.{◌≡◌, ◌≢◌, ℕ, ◌<◌, Bool, true, false, Option, None, Some, [], ◌∷◌, is_some, option_to_list, slice_index_or, ◌↔◌, sym, ◌∙◌, subst}
 use Rattle.std.specs.Prelude.{IfSome, IfNone}
 use Rattle.dash_base.specs.declared.end.End.{End}
 use Rattle.dash_base.specs.declared.id.WordAddr.{WordAddr}

@@ -1,5 +1,5 @@
 -- The number of an enabled choice is that of a hart, a slot or a lock word.
-use Rattle.std.proofs.Common.{◌≡◌, ◌⊎◌, inl, inr, ℕ, ◌+◌, ◌-◌, ◌*◌, ◌/◌, ◌%◌, ◌<◌, ◌≤◌, Bool, true, false, nat_le, if◌then◌else◌, Option, None, Some, List, length, refl, sym, ap, ◌∙◌, subst, arith}
+use Rattle.std.proofs.Common.{◌≡◌, ◌⊎◌, inl, inr, ℕ, ◌+◌, ◌-◌, ◌*◌, ◌%◌, ◌<◌, ◌≤◌, Bool, true, false, nat_le, if◌then◌else◌, None, List, slice_index_or, refl, ap, subst, arith}
 use Rattle.std.proofs.lemmas.Bool.{cases_lt}
 use Rattle.std.proofs.lemmas.List.{get_or_past}
 use Rattle.std.proofs.lemmas.Nat.{div-add-mod', mod_below}
@@ -10,7 +10,7 @@ use Rattle.remote_cache.specs.View.{count, slot_at}
 use Rattle.remote_cache.specs.Steps.{arrived_in, is_refused}
 use Rattle.queue_lock.specs.View.{is_own}
 use Rattle.queue_lock.proofs.LawsOffered.{own_below}
-use Rattle.dash_model.specs.Config.{Config, cluster_of, lock_at}
+use Rattle.dash_model.specs.Config.{Config, cluster_of}
 use Rattle.dash_model.specs.Part.{Part}
 use Rattle.dash_model.specs.HartRows.{HartEffect}
 use Rattle.dash_model.specs.Guard.{Guard}
@@ -113,6 +113,20 @@ none_after (choice.Grant i) own = omega arith
 abbrev pub limit : Config → PartsView → ℕ → ℕ
 limit w v place = if nat_le place 4 then w.top.harts else (if nat_le place 7 then count v.slots else w.top.locks)
 
+-- what is below the place of choices to take a message is none of them
+not_take : (x : Choice) → IsBelow 9 0 x → is_take x ≡ false
+not_take (choice.Take f k) (inl low) = absurd (grind arith)
+not_take (choice.Take f k) (inr (at, low)) = absurd (grind arith)
+not_take (choice.Step k) below = refl
+not_take (choice.Commit k) below = refl
+not_take (choice.BusRead k l) below = refl
+not_take (choice.BusOwn k l) below = refl
+not_take (choice.Evict k l) below = refl
+not_take (choice.Ask n) below = refl
+not_take (choice.Again n) below = refl
+not_take (choice.Install n) below = refl
+not_take (choice.Grant i) below = refl
+
 module _ (w : Config) (c : ℕ) (v : PartsView) (sized : AreSized w c v) where
   in_range : (y : Choice) (p : Part) → Shows w c v p → is_take y ≡ false → Enabled w c y p → number_in y < limit w v (kind_place y)
   in_range (choice.Step k) p shows own able = low_hart w c k (of_step w c (hart_at w c k) p able.event able.done able.is_of able.guard)
@@ -137,4 +151,4 @@ module _ (w : Config) (c : ℕ) (v : PartsView) (sized : AreSized w c v) where
   pub all_listed : (xs : List Choice) → HasListed w c v (IsBelow 8 w.top.locks) xs → ListsOwn w c v xs
   all_listed xs had =
       let all = all_of_kind 8 w.top.locks xs refl had in
-      record { just = all.just; whole = λ y p shows own able. all.whole y p shows own able (inl (none_after y own)); ordered = all.ordered }
+      record { just = all.just; own = λ i d low. not_take (slice_index_or xs i d) (all.within i d low); whole = λ y p shows own able. all.whole y p shows own able (inl (none_after y own)); ordered = all.ordered }

@@ -1,5 +1,5 @@
 -- Each line that a hart may give up is in the way of one that it wants.
-use Rattle.std.proofs.Common.{Err, ◌≡◌, ◌≢◌, ◌⊎◌, inl, inr, ℕ, ◌+◌, ◌-◌, ◌*◌, ◌%◌, ◌<◌, ◌≤◌, ◌==◌, Bool, true, false, cond, Option, None, Some, List, length, refl, sym, ap, ◌∙◌, subst, arith}
+use Rattle.std.proofs.Common.{Err, ◌≡◌, ◌⊎◌, inl, inr, ℕ, ◌+◌, ◌-◌, ◌%◌, ◌<◌, ◌≤◌, ◌==◌, Bool, true, false, cond, Option, None, Some, List, length, refl, sym, ap, ◌∙◌, subst, arith}
 use Rattle.std.specs.List.{insert}
 use Rattle.std.specs.List.Sorted.{IsBinarySearchResult}
 use Rattle.std.specs.Ordering.{nat_cmp}
@@ -16,8 +16,8 @@ use Rattle.remote_cache.specs.declared.slot.Phase.TheVariants as waits
 use Rattle.remote_cache.specs.declared.slot.Slot.{Slot as Request}
 use Rattle.remote_cache.specs.View.{SlotsView, count, slot_at, slot_of, is_of}
 use Rattle.remote_cache.proofs.LawsOffered.{lines_have_one_slot}
-use Rattle.snoop_bus.specs.View.{BusView, harts as bus_harts, is_holder, HasHartRoom, IsHartOther, IsOneMap}
-use Rattle.dash_model.specs.Config.{Config, line_id}
+use Rattle.snoop_bus.specs.View.{BusView, harts as bus_harts, HasHartRoom, IsHartOther, IsOneMap}
+use Rattle.dash_model.specs.Config.{Config}
 use Rattle.dash_model.specs.Cell.{Reads, Owns}
 use Rattle.dash_model.specs.Part.{Part}
 use Rattle.dash_model.specs.HartRows.{HartEffect}
@@ -25,12 +25,11 @@ use Rattle.dash_model.specs.Guard.{Guard}
 use Rattle.dash_model.specs.LineGuards.{EvictFits}
 use Rattle.dash_model.specs.Wants.{NeedsCopy, FrontNeed, StoreNeed, CameFor, Wants, ToInstall, ToRead, ToOwn}
 use Rattle.unit_rows.specs.declared.choice.Choice.TheVariants as choice
-use Rattle.unit_rows.specs.Shown.{PartsView, hart_at, phase_by, slot_by, slot_in, slot_on, Shows, AreSized}
+use Rattle.unit_rows.specs.Shown.{PartsView, hart_at, phase_by, slot_by, slot_in, Shows, AreSized}
 use Rattle.unit_rows.specs.LineNeeds.{IsNeeded}
 use Rattle.unit_rows.specs.Choices.{IsOf}
-use Rattle.unit_rows.specs.Rows.{Enabled}
 use Rattle.unit_rows.proofs.LawsOffered.{held_is}
-use Rattle.cluster_unit.specs.Victims.{IsRising, IsAmong, IsIn, Keeps, came_by, came_line, HasVictimOf, HasCame, HasVictims}
+use Rattle.cluster_unit.specs.Victims.{IsRising, IsIn, Keeps, came_by, came_line, HasVictimOf, HasCame, HasVictims}
 
 -- ---- a number that is put in its place
 

@@ -1,7 +1,7 @@
 -- What lanes carry, and what they brought, where one more event is done.
-use Rattle.std.proofs.Common.{◌≡◌, ◌≢◌, ℕ, ◌+◌, ◌*◌, ◌<◌, ◌==◌, ◌&&◌, Bool, true, false, cond, List, [], ◌∷◌, ◌++◌, map, slice_index_or, refl, sym, ap, ap₂, ◌∙◌, subst, inl, inr, arith}
+use Rattle.std.proofs.Common.{◌≡◌, ◌≢◌, ℕ, ◌<◌, ◌==◌, ◌&&◌, Bool, true, false, cond, List, [], ◌∷◌, ◌++◌, map, slice_index_or, refl, sym, ap, ap₂, ◌∙◌, subst, arith}
 use Rattle.std.proofs.lemmas.Bool.Decides.{nat_tests}
-use Rattle.std.proofs.lemmas.List.{map-append, append_assoc, append-nil}
+use Rattle.std.proofs.lemmas.List.{map-append, append-nil}
 use Rattle.dash_base.specs.declared.id.ClusterId.{ClusterId}
 use Rattle.dash_msg.specs.Classes.{class_of}
 use Rattle.dash_msg.specs.declared.classes.Class.{Class}
@@ -12,7 +12,7 @@ use Rattle.dash_msg.specs.declared.parcel.Sent.{Sent}
 use Rattle.mesh_lanes.specs.View.{OutletView, InletView}
 use Rattle.dash_model.specs.Net.{Packet, same_class, in_lane, lane, packet, parcel}
 use Rattle.dash_model.proofs.LawsOffered.{lane-append}
-use Rattle.cluster_unit.specs.Ends.{place, parcel_of, parcels, AllOfClass, Carry, AreOfClass, Brought, goes_to, parcels_to, Sends}
+use Rattle.cluster_unit.specs.Ends.{place, parcel_of, parcels, AllOfClass, Carry, AreOfClass, Brought, parcels_to, Sends}
 use Rattle.cluster_unit.specs.Turns.{OthersStay}
 
 pub parcels-append : (a b : ℕ) (k : Class) (xs ys : List Packet) → parcels a b k (xs ++ ys) ≡ parcels a b k xs ++ parcels a b k ys

@@ -1,5 +1,6 @@
 pub mod Lanes
 pub mod Sending
+pub mod Rows
 pub mod OnePart
 pub mod Looking
 pub mod Cores

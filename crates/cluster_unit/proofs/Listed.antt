@@ -1,17 +1,12 @@
 -- The whole list: a cluster's own choices, and then those to take a message.
-use Rattle.std.proofs.Common.{◌≡◌, ◌⊎◌, ℕ, ◌+◌, ◌*◌, ◌<◌, ◌≤◌, nat_lt, Bool, true, false, Option, None, Some, List, [], ◌∷◌, ◌++◌, length, slice_index_or, slice_get, refl, sym, ap, ◌∙◌, subst, inl, inr, arith}
-use Rattle.std.proofs.lemmas.Bool.Decides.{nat_tests}
+use Rattle.std.proofs.Common.{◌≡◌, ◌⊎◌, ℕ, ◌≤◌, false, List, ◌++◌, length, slice_index_or, refl, sym, subst, inl, inr, arith}
 use Rattle.std.proofs.lemmas.List.Elements.{Contains-append_left, Contains-append_right, Contains-append_cases, All-contains}
-use Rattle.std.proofs.lemmas.Option.{slice_get-get_or}
-use Rattle.std.proofs.lemmas.List.{with_items_is}
-use Rattle.std.specs.List.{All, Contains}
+use Rattle.std.specs.List.{Contains}
 use Rattle.std.specs.Prelude.{Vec}
 use Rattle.std.specs.Vec.{with_items}
 use Rattle.dash_base.specs.declared.id.ClusterId.{ClusterId}
 use Rattle.dash_msg.specs.declared.classes.Class.{Class}
-use Rattle.dash_msg.specs.declared.classes.Class.TheVariants.{Request, Reply}
 use Rattle.mesh_lanes.specs.View.{InletView}
-use Rattle.dash_model.specs.Config.{Config, cluster_id}
 use Rattle.dash_model.specs.Part.{Part}
 use Rattle.unit_rows.specs.declared.choice.Choice.{Choice}
 use Rattle.unit_rows.specs.declared.choice.Choice.TheVariants as choice
@@ -19,14 +14,14 @@ use Rattle.unit_rows.specs.Shown.{PartsView, Shows}
 use Rattle.unit_rows.specs.Rows.{Enabled}
 use Rattle.cluster_unit.specs.Enabling.{Can, is_take}
 use Rattle.cluster_unit.specs.View.{CoreView}
-use Rattle.cluster_unit.specs.Ends.{place, knows, Looked}
+use Rattle.cluster_unit.specs.Ends.{Looked}
 use Rattle.cluster_unit.specs.Takes.{takes_of}
 use Rattle.cluster_unit.specs.Order.{IsBefore, AreInOrder}
 use Rattle.cluster_unit.specs.Lists.{ListsOwn}
 use Rattle.cluster_unit.specs.Core.{IsAt, IsCore}
 use Rattle.cluster_unit.specs.Choosing.{Shown, MayDo, Lists}
 use Rattle.cluster_unit.proofs.Cores.{shows_at, core_kept, ends_back}
-use Rattle.cluster_unit.proofs.TakesListed.{IsTakeOf, takes_just, takes_whole, takes_ordered, order_append, before_each, itself_there, before_take}
+use Rattle.cluster_unit.proofs.TakesListed.{IsTakeOf, takes_just, takes_whole, takes_ordered, order_append, before_each, before_take}
 
 pub own_may : (b : CoreView) (x : Choice) (p : Part) → is_take x ≡ false → Enabled b.config b.cluster x p → MayDo b x p
 own_may b (choice.Take f k) p own able = absurd (cc)

@@ -1,5 +1,5 @@
 -- Which lock words may be granted: those of this home for which someone waits.
-use Rattle.std.proofs.Common.{◌≡◌, inl, inr, ℕ, ◌+◌, ◌<◌, ◌≤◌, true, false, List, [], ◌∷◌, length, map, refl, sym, ap, ◌∙◌, subst, arith}
+use Rattle.std.proofs.Common.{◌≡◌, inl, inr, ℕ, ◌+◌, ◌<◌, true, false, List, [], ◌∷◌, length, map, refl, sym, ap, ◌∙◌, arith}
 use Rattle.dash_event.specs.declared.event.Kind.{Kind}
 use Rattle.dash_event.specs.declared.event.Kind.TheVariants as kind
 use Rattle.queue_lock.specs.View.{is_own, lock_at, waiting}
@@ -9,12 +9,12 @@ use Rattle.dash_model.specs.Config as config
 use Rattle.dash_model.specs.Config.{Config}
 use Rattle.dash_model.specs.Part.{Part, Waiter, Lock}
 use Rattle.dash_model.specs.HartRows.{HartEffect}
-use Rattle.dash_model.specs.Guard.{Guard, GrantFits}
+use Rattle.dash_model.specs.Guard.{Guard}
 use Rattle.unit_rows.specs.declared.choice.Choice.{Choice}
 use Rattle.unit_rows.specs.declared.choice.Choice.TheVariants as choice
 use Rattle.unit_rows.specs.Shown.{PartsView, waiter_by, Shows, AreSized}
 use Rattle.unit_rows.specs.Choices.{IsOf}
-use Rattle.unit_rows.specs.Rows.{Enabled, Cannot}
+use Rattle.unit_rows.specs.Rows.{Enabled}
 use Rattle.unit_rows.proofs.LawsOffered.{own_of}
 use Rattle.cluster_unit.specs.Order.{kind_place, number_in}
 use Rattle.cluster_unit.specs.Listing.{Offers, LeftOut, HasListed, IsBelow}

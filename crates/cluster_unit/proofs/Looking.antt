@@ -1,5 +1,5 @@
 -- Inlets that are looked at, one after another.
-use Rattle.std.proofs.Common.{◌≡◌, ◌≢◌, ℕ, suc, zero, ◌+◌, ◌*◌, ◌<◌, ◌≤◌, ◌==◌, nat_lt, Bool, true, false, Option, None, Some, IfSome, IfNone, is_some, List, [], ◌∷◌, ◌++◌, length, slice_index_or, slice_get, slice_set, refl, sym, ap, ap₂, ◌∙◌, subst, arith}
+use Rattle.std.proofs.Common.{◌≡◌, ℕ, suc, zero, ◌+◌, ◌*◌, ◌<◌, ◌≤◌, ◌==◌, nat_lt, Bool, true, false, Option, None, Some, IfSome, IfNone, is_some, List, [], ◌∷◌, ◌++◌, length, slice_index_or, slice_get, slice_set, refl, sym, ap, ap₂, ◌∙◌, subst, arith}
 use Rattle.std.proofs.lemmas.Bool.Decides.{nat_tests}
 use Rattle.std.proofs.lemmas.List.{append_assoc, append-nil, length-append, length-set, get_or-set_same, get_or-set_other, get_or_default}
 use mathlib.Core.List.{IsPrefix}

@@ -1,5 +1,5 @@
 -- Lists of choices that grow by one.
-use Rattle.std.proofs.Common.{◌≡◌, ◌⊎◌, inl, inr, ℕ, ◌+◌, ◌<◌, ◌≤◌, false, List, [], ◌∷◌, ◌++◌, length, refl, sym, ap, ◌∙◌, subst, arith}
+use Rattle.std.proofs.Common.{◌≡◌, ◌⊎◌, inl, inr, ℕ, ◌+◌, ◌<◌, ◌≤◌, false, List, [], ◌∷◌, ◌++◌, refl, sym, ap, subst, arith}
 use Rattle.std.specs.List.{All, Contains}
 use Rattle.std.proofs.lemmas.Bool.{cases_lt}
 use Rattle.std.proofs.lemmas.List.Elements.{All-nil, All-head, All-tail, All-push, All-weaker, Contains-append_left, Contains-push}
@@ -8,7 +8,7 @@ use Rattle.dash_model.specs.Part.{Part}
 use Rattle.unit_rows.specs.declared.choice.Choice.{Choice}
 use Rattle.unit_rows.specs.declared.choice.Choice.TheVariants as choice
 use Rattle.unit_rows.specs.Shown.{PartsView, Shows}
-use Rattle.unit_rows.specs.Rows.{Enabled, Cannot}
+use Rattle.unit_rows.specs.Rows.{Enabled}
 use Rattle.cluster_unit.specs.declared.by_number.ByNumber.{ByNumber}
 use Rattle.cluster_unit.specs.declared.by_number.ByNumber.TheVariants as number
 use Rattle.cluster_unit.specs.Enabling.{Can, is_take}

@@ -2,11 +2,10 @@
 use Rattle.std.proofs.Common.{◌≡◌, ℕ, List, [], ◌∷◌, map, refl, sym, ap, ◌∙◌, subst}
 use Rattle.dash_event.specs.declared.event.Event.{Event}
 use Rattle.dash_model.specs.Config.{Config}
-use Rattle.dash_model.specs.Part.{Part, opening_part}
+use Rattle.dash_model.specs.Part.{Part}
 use Rattle.dash_model.specs.HartRows.{HartEffect, PartEffect}
 use Rattle.dash_model.specs.Guard.{Guard}
-use Rattle.dash_model.specs.Row.{row}
-use Rattle.dash_model.specs.Machine.{Step, Steps, event_of, part_after}
+use Rattle.dash_model.specs.Machine.{Step, event_of, part_after}
 use Rattle.dash_model.specs.LocalRun.{IsLocalRun, part_at}
 use Rattle.dash_model.proofs.LawsOffered.{row_same}
 

@@ -46,13 +46,13 @@ one_to stamp d k s b is = ap (λ i. cond i (record { msg = s.msg; stamp = stamp 
 
 -- one is sent by its lane
 sent_by : (n stamp d : ℕ) (k : Class) (s : Sent) (old : List OutletView) (x y : OutletView) → place s.to.0 (class_of s.msg) < length old
-    → y ≡ with_sent (slice_index_or old (place s.to.0 (class_of s.msg)) x) (record { msg = s.msg; stamp = stamp })
+    → y.sent ≡ (slice_index_or old (place s.to.0 (class_of s.msg)) x).sent ++ record { msg = s.msg; stamp = stamp } ∷ []
     → Apart s.to.0 d (class_of s.msg) k
     → (slice_index_or (slice_set old (place s.to.0 (class_of s.msg)) y) (place d k) x).sent ≡ (slice_index_or old (place d k) x).sent ++ parcels_to stamp d k (s ∷ [])
 sent_by n stamp d k s old x y low is (IsOne to_is class_is) =
     subst (λ e. (slice_index_or (slice_set old (place s.to.0 (class_of s.msg)) y) (place e k) x).sent ≡ (slice_index_or old (place e k) x).sent ++ parcels_to stamp e k (s ∷ [])) to_is
     (subst (λ j. (slice_index_or (slice_set old (place s.to.0 (class_of s.msg)) y) (place s.to.0 j) x).sent ≡ (slice_index_or old (place s.to.0 j) x).sent ++ parcels_to stamp s.to.0 j (s ∷ [])) class_is
-    (ap (λ (z : OutletView). z.sent) (get_or-set_same old (place s.to.0 (class_of s.msg)) y x low ∙ is)
+    (ap (λ (z : OutletView). z.sent) (get_or-set_same old (place s.to.0 (class_of s.msg)) y x low) ∙ is
     ∙ ap (λ ps. (slice_index_or old (place s.to.0 (class_of s.msg)) x).sent ++ ps) (sym (one_to stamp s.to.0 (class_of s.msg) s true (ap (λ i. i && same_class (class_of s.msg) (class_of s.msg)) (equal s.to.0) ∙ same_itself (class_of s.msg))))))
 sent_by n stamp d k s old x y low is (Differ far other) =
     ap (λ (z : OutletView). z.sent) (get_or-set_other old (place s.to.0 (class_of s.msg)) (place d k) y x (λ e. far (sym e)))
@@ -64,18 +64,24 @@ pub at_or_not : (P : ℕ → Type 0) (i j : ℕ) (b : Bool) → (i == j) ≡ b �
 at_or_not P i j true e here other = subst P (grind (arith, nat_tests)) here
 at_or_not P i j false e here other = other (grind (arith, nat_tests))
 
+-- an end that sent one more, and moved on what it could
+pub record SendsOn (old new : OutletView) (q : Parcel) : Type 0 where
+  pub lane : new.lane ≡ old.lane
+  pub sent : new.sent ≡ old.sent ++ q ∷ []
+  pub spare : old.spare ≤ new.spare + 1
+
 pub sends_one : (n stamp : ℕ) (s : Sent) (old : List OutletView) (y : OutletView) → place s.to.0 (class_of s.msg) < length old
-    → ((x : OutletView) → y ≡ with_sent (slice_index_or old (place s.to.0 (class_of s.msg)) x) (record { msg = s.msg; stamp = stamp }))
+    → ((x : OutletView) → SendsOn (slice_index_or old (place s.to.0 (class_of s.msg)) x) y (record { msg = s.msg; stamp = stamp }))
     → Sends n stamp (s ∷ []) old (slice_set old (place s.to.0 (class_of s.msg)) y)
 sends_one n stamp s old y low is =
     let at = place s.to.0 (class_of s.msg) in
     record {
       count = length-set old at y;
       lanes = λ j x. at_or_not (λ i. (slice_index_or (slice_set old at y) i x).lane ≡ (slice_index_or old i x).lane) at j (at == j) refl
-          (ap (λ (z : OutletView). z.lane) (get_or-set_same old at y x low ∙ is x)) (λ far. ap (λ (z : OutletView). z.lane) (get_or-set_other old at j y x (λ e. far (sym e))));
-      sent = λ d k x below. sent_by n stamp d k s old x y low (is x) (apart s.to.0 d (class_of s.msg) k);
+          (ap (λ (z : OutletView). z.lane) (get_or-set_same old at y x low) ∙ (is x).lane) (λ far. ap (λ (z : OutletView). z.lane) (get_or-set_other old at j y x (λ e. far (sym e))));
+      sent = λ d k x below. sent_by n stamp d k s old x y low (is x).sent (apart s.to.0 d (class_of s.msg) k);
       spare = λ j x. at_or_not (λ i. (slice_index_or old i x).spare ≤ (slice_index_or (slice_set old at y) i x).spare + 1) at j (at == j) refl
-          (let e : (slice_index_or (slice_set old at y) at x).spare ≡ (slice_index_or old at x).spare - 1 = ap (λ (z : OutletView). z.spare) (get_or-set_same old at y x low ∙ is x) in grind arith)
+          (let e : (slice_index_or (slice_set old at y) at x).spare ≡ y.spare = ap (λ (z : OutletView). z.spare) (get_or-set_same old at y x low) in let f = (is x).spare in grind arith)
           (λ far. let e : (slice_index_or (slice_set old at y) j x).spare ≡ (slice_index_or old j x).spare = ap (λ (z : OutletView). z.spare) (get_or-set_other old at j y x (λ e. far (sym e))) in grind arith);
     }
 
@@ -94,4 +100,11 @@ sends_past n stamp s old count past = record {
   lanes = λ j x. refl;
   sent = λ d k x low. sym (append-nil (slice_index_or old (place d k) x).sent) ∙ ap (λ ps. (slice_index_or old (place d k) x).sent ++ ps) (sym (one_to stamp d k s false (nowhere n d k s (length old) count past low (apart s.to.0 d (class_of s.msg) k))));
   spare = λ j x. grind arith;
+}
+
+pub sent_on : (old mid new : OutletView) (q : Parcel) → mid ≡ with_sent old q → new.lane ≡ mid.lane → new.sent ≡ mid.sent → length new.spool ≤ length mid.spool → new.spare + length new.spool ≡ mid.spare + length mid.spool → SendsOn old new q
+sent_on old mid new q is lane sent fewer spare = record {
+  lane = lane ∙ ap (λ (z : OutletView). z.lane) is;
+  sent = sent ∙ ap (λ (z : OutletView). z.sent) is;
+  spare = let e : mid.spare ≡ old.spare - 1 = ap (λ (z : OutletView). z.spare) is in grind arith;
 }

@@ -1,5 +1,5 @@
 -- The choices to take a message: just those whose lane shows one, each once, in their order.
-use Rattle.std.proofs.Common.{◌≡◌, ◌≢◌, ◌⊎◌, ℕ, suc, zero, ◌+◌, ◌*◌, ◌<◌, ◌≤◌, ◌==◌, nat_lt, Bool, true, false, cond, Option, None, Some, List, [], ◌∷◌, ◌++◌, length, slice_index_or, slice_get, refl, sym, ap, ◌∙◌, subst, inl, inr, arith}
+use Rattle.std.proofs.Common.{◌≡◌, ◌⊎◌, ℕ, suc, zero, ◌<◌, ◌≤◌, nat_lt, Bool, true, false, List, [], ◌∷◌, ◌++◌, length, slice_index_or, slice_get, refl, sym, subst, inl, inr, arith}
 use Rattle.std.proofs.lemmas.List.Elements.{Contains-append_left, Contains-append_right, Contains-append_cases}
 use Rattle.std.proofs.lemmas.Bool.Decides.{nat_tests}
 use Rattle.std.proofs.lemmas.List.{get_or_default}
@@ -14,7 +14,7 @@ use Rattle.unit_rows.specs.declared.choice.Choice.TheVariants.{Take}
 use Rattle.cluster_unit.specs.Enabling.{is_take}
 use Rattle.cluster_unit.specs.Ends.{place, knows}
 use Rattle.cluster_unit.specs.Takes.{take_if, takes_from, takes_of}
-use Rattle.cluster_unit.specs.Order.{kind_place, number_in, IsSooner, IsBefore, IsBeforeAll, AreInOrder}
+use Rattle.cluster_unit.specs.Order.{kind_place, IsBefore, IsBeforeAll, AreInOrder}
 
 -- a choice to take a message from one of the first n clusters, whose lane shows one
 pub record IsTakeOf (xs : List InletView) (n : ℕ) (x : Choice) : Type 0 where

@@ -1,5 +1,5 @@
 -- One turn of a unit: what is picked of what is listed, and that it is done.
-use Rattle.std.proofs.Common.{◌≡◌, ℕ, ◌%◌, ◌<◌, ◌≤◌, ◌+◌, ◌==◌, true, false, Option, None, Some, IfSome, IfNone, option_map, List, [], ◌∷◌, length, slice_index_or, refl, sym, ap, ◌∙◌, subst, arith}
+use Rattle.std.proofs.Common.{◌≡◌, ℕ, ◌%◌, ◌<◌, true, false, Option, None, Some, IfSome, IfNone, option_map, List, [], ◌∷◌, length, slice_index_or, refl, sym, ap, ◌∙◌, subst, arith}
 use Rattle.std.proofs.lemmas.List.{get_or_default}
 use Rattle.std.specs.List.{Contains}
 use Rattle.dash_base.specs.declared.id.ClusterId.{ClusterId}
@@ -15,10 +15,9 @@ use Rattle.unit_rows.specs.Rows.{Enabled}
 use Rattle.cluster_unit.specs.declared.turn.Turn.{Turn}
 use Rattle.cluster_unit.specs.declared.turn.Turn.TheVariants.{Did, Idle}
 use Rattle.cluster_unit.specs.View.{CoreView}
-use Rattle.cluster_unit.specs.Ends.{knows}
 use Rattle.cluster_unit.specs.Core.{HasRun, IsAt}
 use Rattle.cluster_unit.specs.Turns.{spent, Acted, TookFrom}
-use Rattle.cluster_unit.specs.Choosing.{Shown, MayDo, Lists, Performed, Chose}
+use Rattle.cluster_unit.specs.Choosing.{Shown, MayDo, Lists, Performed}
 use Rattle.cluster_unit.specs.Picking.{IsPicked, Turned}
 
 -- where a core is

@@ -1,7 +1,5 @@
 -- What a unit's core keeps: its log is a run of its cluster by itself, whatever its lanes brought.
 use Rattle.std.specs.Prelude.{◌≡◌, ℕ, ◌+◌, ◌*◌, ◌^◌, ◌<◌, ◌≤◌, List, length, map}
-use Rattle.dash_event.specs.declared.event.Event.{Event}
-use Rattle.dash_model.specs.Config.{Config}
 use Rattle.dash_model.specs.Net.{Packet}
 use Rattle.dash_model.specs.Part.{Part, opening_part}
 use Rattle.dash_model.specs.Machine.{Step, event_of}

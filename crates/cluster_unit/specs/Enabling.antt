@@ -1,5 +1,5 @@
 -- When a choice is enabled, as the code's parts show it.
-use Rattle.std.specs.Prelude.{ℕ, ◌<◌, Bool, true, false}
+use Rattle.std.specs.Prelude.{◌<◌, Bool, true, false}
 use Rattle.remote_cache.specs.View.{count}
 use Rattle.dash_model.specs.Config.{Config}
 use Rattle.unit_rows.specs.declared.choice.Choice.{Choice}

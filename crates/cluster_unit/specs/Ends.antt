@@ -7,7 +7,7 @@ use Rattle.dash_msg.specs.declared.classes.Class.TheVariants.{Request, Reply}
 use Rattle.dash_msg.specs.declared.parcel.Parcel.{Parcel}
 use Rattle.dash_msg.specs.declared.parcel.Sent.{Sent}
 use Rattle.mesh_lanes.specs.View.{OutletView, InletView}
-use Rattle.dash_model.specs.Net.{Packet, same_class, lane, packet}
+use Rattle.dash_model.specs.Net.{Packet, same_class, lane}
 
 -- whether an end knows of a message that is taken next
 abbrev pub knows : Option InletView → Bool

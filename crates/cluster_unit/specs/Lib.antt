@@ -13,6 +13,7 @@ pub mod Choosing
 pub mod Settling
 pub mod Searching
 pub mod Takes
+pub mod Fresh
 pub mod Meeting
 pub mod Picking
 pub mod Acting

@@ -1,5 +1,5 @@
 -- What a list of choices has while it is made: just the enabled ones of a range that grows.
-use Rattle.std.specs.Prelude.{◌≡◌, ◌⊎◌, ℕ, ◌<◌, false, Option, None, Some, List, [], ◌∷◌, ◌++◌, length, slice_index_or}
+use Rattle.std.specs.Prelude.{◌≡◌, ◌⊎◌, ℕ, ◌<◌, false, Option, None, Some, List, [], ◌∷◌, ◌++◌}
 use Rattle.std.specs.List.{All, Contains}
 use Rattle.dash_base.specs.declared.id.LineId.{LineId}
 use Rattle.dash_model.specs.Config.{Config}

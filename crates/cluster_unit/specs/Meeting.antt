@@ -1,9 +1,9 @@
 -- What two units know of a lane between them, where its two ends meet.
-use Rattle.std.specs.Prelude.{◌≡◌, ◌≢◌, ℕ, ◌+◌, ◌<◌, ◌≤◌, List, ◌++◌, true, length, slice_index_or, slice_get}
+use Rattle.std.specs.Prelude.{◌≡◌, ℕ, ◌+◌, ◌<◌, ◌≤◌, List, ◌++◌, length, slice_index_or}
 use Rattle.dash_msg.specs.declared.classes.Class.{Class}
 use Rattle.mesh_lanes.specs.View.{OutletView, InletView}
 use Rattle.cluster_unit.specs.View.{CoreView}
-use Rattle.cluster_unit.specs.Ends.{place, knows}
+use Rattle.cluster_unit.specs.Ends.{place}
 
 -- ends that send were flushed: what was sent stays, and no memory is lost
 pub record Flushed (old new : List OutletView) : Type 0 where

@@ -3,7 +3,7 @@ use Rattle.std.specs.Prelude.{◌≡◌, ℕ, ◌<◌, ◌==◌, cond, Option, N
 use Rattle.dash_base.specs.declared.id.LineId.{LineId}
 use Rattle.remote_cache.specs.View.{SlotsView, slot_at}
 use Rattle.remote_cache.specs.declared.slot.Phase.{Phase}
-use Rattle.remote_cache.specs.declared.slot.Phase.TheVariants.{Asked, Poisoned, Refused, Came}
+use Rattle.remote_cache.specs.declared.slot.Phase.TheVariants.{Came}
 use Rattle.remote_cache.specs.declared.slot.Slot.{Slot as Request}
 use Rattle.snoop_bus.specs.View.{BusView, IsHartOther}
 use Rattle.dash_model.specs.Config.{Config}

@@ -27,8 +27,9 @@ fn class_place(class: Class) -> usize
     }
 }
 
-/// Sends a message with the stamp of its event, by the lane of its class to its cluster. In a run each
-/// message goes to a cluster of the machine; one to another cluster is let go.
+/// Sends a message with the stamp of its event, by the lane of its class to its cluster, and moves on
+/// what that lane has room for. In a run each message goes to a cluster of the machine; one to another
+/// cluster is let go.
 pub fn send(outlets: &mut [Outlet], clusters: u32, stamp: u64, sent: Sent)
     requires ends { length outlets.old ≡ 2 * clusters }
     requires spare { (j : ℕ) (x : OutletView) → j < length outlets.old → 1 ≤ (slice_index_or outlets.old j x).spare }
@@ -38,10 +39,12 @@ pub fn send(outlets: &mut [Outlet], clusters: u32, stamp: u64, sent: Sent)
     if at >= outlets.len() {
         return;
     }
-    outlets[at].send(Parcel {
+    let outlet = &mut outlets[at];
+    outlet.send(Parcel {
         msg: sent.msg,
         stamp,
     });
+    outlet.flush();
 }
 
 /// Sends these messages, in order.

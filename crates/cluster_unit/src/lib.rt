@@ -1,6 +1,7 @@
 //! A cluster as a unit: what it may do next, and each event that it does as a step of the written machine.
 #![tactic(auto)]
 
+pub use fresh_lanes::Inlets;
 pub use meeting::meet_units;
 pub use turn::Turn;
 pub use unit::Unit;
@@ -17,6 +18,7 @@ mod evict_choices;
 mod first_eviction;
 mod first_settling;
 mod first_take;
+mod fresh_lanes;
 mod grants;
 mod list;
 mod listing;

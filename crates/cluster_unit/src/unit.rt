@@ -11,6 +11,7 @@ use crate::turn::Turn;
 use crate::unit_core::Core;
 use arbiter::{Arbiter, Chooser};
 use dash_base::OutOfMemory;
+use dash_event::{Event, Logged};
 use mesh_lanes::{Inlet, Outlet};
 use std::alloc::Global;
 use unit_rows::{Choice, Site};
@@ -96,6 +97,14 @@ impl Unit {
         self.steps = steps;
         self.ahead = ahead;
         turn
+    }
+}
+
+impl Logged for Unit {
+    ghost log = { λ u. u.core.log };
+
+    fn events(&self) -> &[Event] {
+        self.core.log()
     }
 }
 

@@ -97,6 +97,13 @@ impl Core {
         self.site.topology.harts
     }
 
+    /// For how many turns it has memory.
+    pub fn reserved(&self) -> u32
+        ensures { result ≡ self.now.reserved }
+    {
+        self.reserved
+    }
+
     /// What happened in its cluster so far.
     pub fn log(&self) -> &[Event]
         ensures { result.now ≡ self.now.log }

@@ -4,8 +4,8 @@ use Rattle.cluster_unit.proofs.bus_choices.offer_read.Goals as goal
 
 pub returns-in_default-clause-listed : goal.returns-in_default-clause-listed
 returns-in_default-clause-listed c =
-    no_read (config c.args.site.now) c.args.site.now.cluster.0 c.args.hart (shown c.args.parts.now) _ c.in_default.ensures c.requires.before
+    no_read (config c.args.site.now) c.args.site.now.cluster.0 c.args.hart (shown c.args.parts.now) _ c.in_default.ensures.needed c.requires.before
 
 pub returns-clause-listed : goal.returns-clause-listed
 returns-clause-listed c =
-    a_read (config c.args.site.now) c.args.site.now.cluster.0 c.args.hart (shown c.args.parts.now) c.in-Some.line _ _ c.in-Some.ensures c.requires.before c.offer.ensures.offers
+    a_read (config c.args.site.now) c.args.site.now.cluster.0 c.args.hart (shown c.args.parts.now) c.in-Some.line _ _ c.in-Some.ensures.needed c.requires.before c.offer.ensures.offers

@@ -1,4 +1,4 @@
-use Rattle.std.proofs.Common.{◌≡◌, sym, subst}
+use Rattle.std.proofs.Common.{sym, subst}
 use Rattle.unit_rows.specs.Shown.{config, shown}
 use Rattle.cluster_unit.specs.Listing.{HasListed, IsWritten}
 use Rattle.cluster_unit.proofs.BusListing.{no_own, an_own}

@@ -1,6 +1,5 @@
-use Rattle.std.proofs.Common.{◌≡◌, ℕ, ◌≤◌, ◌<◌, List, length, take, slice_index_or, refl, ◌∙◌, ap, sym, subst, arith}
+use Rattle.std.proofs.Common.{◌<◌, take, sym, subst, arith}
 use Rattle.std.proofs.lemmas.List.{take_more, length-take-le}
-use Rattle.dash_msg.specs.declared.parcel.Sent.{Sent}
 use Rattle.cluster_unit.specs.Ends.{Sends}
 use Rattle.cluster_unit.proofs.Sending.{sends_none, sends_more}
 use Rattle.cluster_unit.proofs.ends.send_all.Goals as goal

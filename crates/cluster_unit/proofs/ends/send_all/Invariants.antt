@@ -1,4 +1,4 @@
-use Rattle.std.proofs.Common.{◌≡◌, ℕ, ◌≤◌, ◌<◌, length, take}
+use Rattle.std.proofs.Common.{◌≤◌, take}
 use Rattle.cluster_unit.specs.Ends.{Sends}
 use Rattle.cluster_unit.proofs.ends.send_all.Given as goal
 

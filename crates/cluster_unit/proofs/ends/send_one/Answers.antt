@@ -1,4 +1,4 @@
-use Rattle.std.proofs.Common.{◌≡◌, sym, subst, option_to_list}
+use Rattle.std.proofs.Common.{sym, subst, option_to_list}
 use Rattle.cluster_unit.specs.Ends.{Sends}
 use Rattle.cluster_unit.proofs.Sending.{sends_none}
 use Rattle.cluster_unit.proofs.ends.send_one.Goals as goal

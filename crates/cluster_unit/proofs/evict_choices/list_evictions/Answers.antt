@@ -1,4 +1,4 @@
-use Rattle.std.proofs.Common.{◌≡◌, subst, arith}
+use Rattle.std.proofs.Common.{subst, arith}
 use Rattle.unit_rows.specs.Shown.{config, shown}
 use Rattle.cluster_unit.specs.Listing.{HasListed, IsBelow}
 use Rattle.cluster_unit.proofs.evict_choices.list_evictions.Goals as goal

@@ -1,4 +1,4 @@
-use Rattle.std.proofs.Common.{rules, ◌≡◌, ◌+◌, ◌<◌, ◌≤◌, vec_len, vec_capacity, ◌∙◌, sym, ap, subst, arith, length}
+use Rattle.std.proofs.Common.{rules, ◌∙◌, arith}
 use Rattle.std.proofs.lemmas.List.{get_or_default}
 use Rattle.unit_rows.specs.Shown.{config, shown}
 use Rattle.cluster_unit.proofs.EvictListing.{none_given, one_given, all_given}

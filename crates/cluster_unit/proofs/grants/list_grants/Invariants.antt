@@ -1,4 +1,4 @@
-use Rattle.std.proofs.Common.{◌≡◌, ◌+◌, ◌<◌, ◌≤◌, vec_len, vec_capacity}
+use Rattle.std.proofs.Common.{◌≡◌, ◌+◌, ◌≤◌, vec_len, vec_capacity}
 use Rattle.unit_rows.specs.Shown.{config, shown}
 use Rattle.cluster_unit.specs.Listing.{HasListed, IsBelow}
 use Rattle.cluster_unit.proofs.grants.list_grants.Given as goal

@@ -1,4 +1,4 @@
-use Rattle.std.proofs.Common.{rules, ◌≡◌, false, ◌∙◌, sym, ap}
+use Rattle.std.proofs.Common.{rules}
 use Rattle.unit_rows.specs.Shown.{config, shown}
 use Rattle.cluster_unit.proofs.LockListing.{not_own}
 use Rattle.cluster_unit.proofs.grants.offer_grant.Goals as goal

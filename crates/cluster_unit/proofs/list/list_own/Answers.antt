@@ -1,4 +1,4 @@
-use Rattle.std.proofs.Common.{◌≡◌, refl}
+use Rattle.std.proofs.Common.{refl}
 use Rattle.unit_rows.specs.Shown.{config, shown}
 use Rattle.cluster_unit.proofs.InRange.{all_of_kind, all_listed}
 use Rattle.cluster_unit.proofs.list.list_own.Goals as goal

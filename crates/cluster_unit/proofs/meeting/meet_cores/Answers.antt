@@ -1,4 +1,4 @@
-use Rattle.std.proofs.Common.{◌≡◌, refl}
+use Rattle.std.proofs.Common.{refl}
 use Rattle.unit_rows.specs.Shown.{shown}
 use Rattle.cluster_unit.specs.contracts.unit_core.Core.{the_view}
 use Rattle.cluster_unit.proofs.EndsMet.{met_in, to_met}

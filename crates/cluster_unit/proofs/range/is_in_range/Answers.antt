@@ -1,7 +1,6 @@
-use Rattle.std.proofs.Common.{◌≡◌, ◌<◌, ◌≤◌, true, false, sym, ap, ◌∙◌, subst, arith}
+use Rattle.std.proofs.Common.{sym, subst, arith}
 use Rattle.std.proofs.lemmas.Bool.Decides.{nat_tests}
 use Rattle.unit_rows.specs.Shown.{config, shown}
-use Rattle.unit_rows.specs.declared.choice.Choice.TheVariants.{Step, Commit, BusRead, BusOwn, Evict, Ask, Again, Install}
 use Rattle.unit_rows.proofs.LawsOffered.{far_step, far_commit, far_read, far_own, far_evict, past_ask, past_again, past_install}
 use Rattle.cluster_unit.specs.Enabling.{IsInRange}
 use Rattle.cluster_unit.proofs.ByChoice.{cannot_other}

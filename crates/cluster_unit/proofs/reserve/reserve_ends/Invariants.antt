@@ -1,4 +1,4 @@
-use Rattle.std.proofs.Common.{◌≡◌, ℕ, ◌≤◌, ◌<◌, length, slice_index_or}
+use Rattle.std.proofs.Common.{ℕ, ◌≤◌, ◌<◌, slice_index_or}
 use Rattle.mesh_lanes.specs.View.{OutletView}
 use Rattle.cluster_unit.specs.Reserving.{HaveMore}
 use Rattle.cluster_unit.proofs.reserve.reserve_ends.Given as goal

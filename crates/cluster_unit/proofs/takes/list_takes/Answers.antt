@@ -1,4 +1,4 @@
-use Rattle.std.proofs.Common.{◌≡◌, refl, ◌∙◌, arith}
+use Rattle.std.proofs.Common.{refl, ◌∙◌, arith}
 use Rattle.cluster_unit.proofs.Looking.{looked_none, looked_more, takes_grow, few_more, no_takes}
 use Rattle.cluster_unit.proofs.takes.list_takes.Goals as goal
 

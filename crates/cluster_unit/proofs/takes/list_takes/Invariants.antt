@@ -1,4 +1,4 @@
-use Rattle.std.proofs.Common.{◌≡◌, ℕ, ◌+◌, ◌*◌, ◌≤◌, ◌++◌, length, vec_capacity}
+use Rattle.std.proofs.Common.{◌≡◌, ◌+◌, ◌*◌, ◌≤◌, ◌++◌, length, vec_capacity}
 use Rattle.cluster_unit.specs.Ends.{Looked}
 use Rattle.cluster_unit.specs.Takes.{takes_of}
 use Rattle.cluster_unit.proofs.takes.list_takes.Given as goal

@@ -1,10 +1,7 @@
-use Rattle.std.proofs.Common.{◌≡◌, ◌<◌, ◌≤◌, None, Some, IfSome, IfNone, option_to_list, refl, sym, ap, ◌∙◌, subst, ◌-◌, arith, rules}
+use Rattle.std.proofs.Common.{◌<◌, option_to_list, sym, ap, subst, ◌-◌, rules}
 use Rattle.std.specs.Vec.{with_items}
-use Rattle.dash_event.specs.declared.event.Kind.{Kind}
-use Rattle.unit_rows.specs.Shown.{config, shown}
-use Rattle.unit_rows.specs.Rows.{DoesChoice, Cannot}
+use Rattle.unit_rows.specs.Shown.{shown}
 use Rattle.unit_rows.proofs.LawsOffered.{stores_are_of_memory}
-use Rattle.cluster_unit.specs.Enabling.{is_take}
 use Rattle.cluster_unit.specs.View.{CoreView}
 use Rattle.cluster_unit.specs.Turns.{Happened, IsIdle, spent}
 use Rattle.cluster_unit.specs.contracts.unit_core.Core.{the_view}

@@ -1,4 +1,4 @@
-use Rattle.std.proofs.Common.{◌≡◌, ◌<◌, sym, ap, ◌∙◌, subst, rules}
+use Rattle.std.proofs.Common.{◌≡◌, ◌<◌, sym, subst, rules}
 use Rattle.unit_rows.specs.Shown.{shown, hart_at}
 use Rattle.cluster_unit.specs.View.{CoreView}
 use Rattle.cluster_unit.specs.Core.{IsAt}

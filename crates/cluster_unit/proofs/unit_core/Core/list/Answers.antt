@@ -1,8 +1,7 @@
-use Rattle.std.proofs.Common.{◌≡◌, refl, sym, ap, ◌∙◌, subst}
+use Rattle.std.proofs.Common.{subst}
 use Rattle.std.specs.Vec.{with_items}
 use Rattle.unit_rows.specs.Shown.{shown}
 use Rattle.unit_rows.proofs.LawsOffered.{stores_are_of_memory}
-use Rattle.cluster_unit.specs.View.{CoreView}
 use Rattle.cluster_unit.specs.Choosing.{Lists}
 use Rattle.cluster_unit.specs.contracts.unit_core.Core.{the_view}
 use Rattle.cluster_unit.proofs.Listed.{core_listed, listed_back}

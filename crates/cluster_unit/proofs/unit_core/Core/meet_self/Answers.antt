@@ -1,4 +1,4 @@
-use Rattle.std.proofs.Common.{◌≡◌, refl}
+use Rattle.std.proofs.Common.{refl}
 use Rattle.cluster_unit.proofs.EndsMet.{met_in}
 use Rattle.cluster_unit.proofs.unit_core.Core.meet_self.Goals as goal
 

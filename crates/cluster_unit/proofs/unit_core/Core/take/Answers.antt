@@ -1,7 +1,5 @@
-use Rattle.std.proofs.Common.{◌≡◌, ◌<◌, ◌≤◌, ◌-◌, length, slice_index_or, refl, sym, ap, ◌∙◌, subst, rules, arith}
-use Rattle.std.proofs.lemmas.List.{with_items_is}
+use Rattle.std.proofs.Common.{◌<◌, ◌-◌, sym, subst, rules}
 use Rattle.std.specs.Vec.{with_items}
-use Rattle.mesh_lanes.specs.View.{InletView}
 use Rattle.unit_rows.specs.Shown.{shown}
 use Rattle.unit_rows.proofs.LawsOffered.{askers_go_on}
 use Rattle.cluster_unit.specs.Ends.{Sends}
