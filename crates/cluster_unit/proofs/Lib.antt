@@ -18,3 +18,4 @@ pub mod Fitting
 pub mod ByChoice
 pub mod FirstOnes
 pub mod SettleTurns
+pub mod SerialOnes

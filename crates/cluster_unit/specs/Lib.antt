@@ -12,6 +12,8 @@ pub mod Reserving
 pub mod Choosing
 pub mod Settling
 pub mod Searching
+pub mod Serial
+pub mod SerialSearch
 pub mod Takes
 pub mod Fresh
 pub mod Meeting
