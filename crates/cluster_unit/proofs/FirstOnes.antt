@@ -1,5 +1,5 @@
 -- The first choice by which a cluster settles, as a search finds it.
-use Rattle.std.proofs.Common.{◌≡◌, ◌≢◌, ◌⊎◌, inl, inr, ℕ, ◌+◌, ◌*◌, ◌<◌, ◌≤◌, Bool, true, false, Option, None, Some, List, length, slice_index_or, slice_get, refl, sym, ap, ◌∙◌, subst, arith}
+use Rattle.std.proofs.Common.{◌≡◌, ◌⊎◌, inl, inr, ℕ, ◌+◌, ◌<◌, ◌≤◌, true, false, Option, None, Some, List, length, slice_index_or, slice_get, refl, sym, ap, ◌∙◌, subst, arith}
 use Rattle.std.proofs.lemmas.Bool.{cases_lt}
 use Rattle.std.specs.Prelude.{Vec}
 use Rattle.std.specs.Vec.{with_items}
@@ -19,12 +19,11 @@ use Rattle.unit_rows.specs.Rows.{Enabled, Can, Cannot}
 use Rattle.cluster_unit.specs.Enabling.{is_take}
 use Rattle.cluster_unit.specs.View.{CoreView}
 use Rattle.cluster_unit.specs.Ends.{place, knows, Looked}
-use Rattle.cluster_unit.specs.Order.{number_in, IsSooner}
 use Rattle.cluster_unit.specs.Core.{IsAt, IsCore}
 use Rattle.cluster_unit.specs.Choosing.{Shown, MayDo}
 use Rattle.cluster_unit.specs.Settling.{IsSettling, SettlesBefore, IsFirstToSettle, FirstToSettle}
-use Rattle.cluster_unit.specs.Searching.{IsFirstClass, FirstClass, IsFirstTake, FirstTake, IsFirstOf, FirstOf, CannotSettle, IsWay, IsFirstLine, FirstLine, IsFirstHart, FirstHart, IsFirstOwn, FirstOwn, FirstAfter}
-use Rattle.cluster_unit.specs.Victims.{IsRising, IsIn, HasVictims}
+use Rattle.cluster_unit.specs.Searching.{IsFirstClass, FirstTake, FirstOf, CannotSettle, IsWay, IsFirstLine, FirstHart, IsFirstOwn, FirstOwn, FirstAfter}
+use Rattle.cluster_unit.specs.Victims.{IsRising, HasVictims}
 use Rattle.cluster_unit.proofs.Cores.{shows_at, ends_back}
 use Rattle.cluster_unit.proofs.InTheWay.{rises_slowly}
 use Rattle.cluster_unit.proofs.InRange.{below_limit}

@@ -13,19 +13,17 @@ use Rattle.unit_rows.specs.declared.parts.Local.{Local}
 use Rattle.unit_rows.specs.EvictFits.{Tells, CanRead, CanWrite, CanStore}
 use Rattle.unit_rows.specs.LineNeeds.{IsNeeded}
 use Rattle.unit_rows.specs.Shown.{PartsView, hart_at, Shows}
-use Rattle.unit_rows.specs.Rows.{Enabled, Can, Cannot}
+use Rattle.unit_rows.specs.Rows.{Enabled}
 use Rattle.cluster_unit.specs.declared.cause.Cause.{Cause}
 use Rattle.cluster_unit.specs.declared.cause.Cause.TheVariants.{Store, Instruction}
 use Rattle.cluster_unit.specs.declared.turn.Turn.{Turn}
-use Rattle.cluster_unit.specs.declared.turn.Turn.TheVariants.{Did, Idle}
 use Rattle.cluster_unit.specs.Enabling.{is_take}
 use Rattle.cluster_unit.specs.View.{CoreView}
-use Rattle.cluster_unit.specs.Core.{HasRun, IsAt, IsCore}
-use Rattle.cluster_unit.specs.Turns.{spent}
+use Rattle.cluster_unit.specs.Core.{HasRun, IsCore}
 use Rattle.cluster_unit.specs.Choosing.{Performed}
-use Rattle.cluster_unit.specs.Victims.{IsIn, HasVictims}
-use Rattle.cluster_unit.specs.Serial.{StoreRoom, FrontRoom, ServesStore, ServesFront, ServesAfter, Serves, serial_place, IsFirstSerial, FirstSerial, Stepped}
-use Rattle.cluster_unit.specs.SerialSearch.{Just, IsAtPlace, FoundAt, NoneBefore, IsFirstFor, FirstFor, RoomFor, MakesRoom, CannotMake, IsRoom, FindsRoom}
+use Rattle.cluster_unit.specs.Victims.{HasVictims}
+use Rattle.cluster_unit.specs.Serial.{FrontRoom, ServesStore, ServesFront, ServesAfter, Serves, serial_place, FirstSerial, Stepped}
+use Rattle.cluster_unit.specs.SerialSearch.{Just, IsAtPlace, FoundAt, NoneBefore, IsFirstFor, FirstFor, RoomFor, MakesRoom, CannotMake, FindsRoom}
 use Rattle.cluster_unit.proofs.Cores.{shows_at}
 use Rattle.cluster_unit.proofs.FirstOnes.{so_far}
 use Rattle.cluster_unit.proofs.Listed.{own_may}

@@ -1,5 +1,5 @@
 -- One step by which a cluster settles.
-use Rattle.std.proofs.Common.{◌≡◌, ◌≢◌, ℕ, ◌+◌, ◌*◌, ◌<◌, true, false, Option, None, Some, List, slice_get, refl, sym, ap, ◌∙◌, subst, arith}
+use Rattle.std.proofs.Common.{◌≡◌, ℕ, ◌+◌, ◌*◌, ◌<◌, false, None, Some, List, slice_get, refl, sym, ap, ◌∙◌, subst, arith}
 use Rattle.dash_msg.specs.declared.classes.Class.{Class}
 use Rattle.dash_msg.specs.declared.classes.Class.TheVariants.{Request, Reply}
 use Rattle.mesh_lanes.specs.View.{InletView}
@@ -9,10 +9,10 @@ use Rattle.dash_model.specs.LocalRun.{part_at}
 use Rattle.unit_rows.specs.declared.choice.Choice.{Choice}
 use Rattle.unit_rows.specs.declared.choice.Choice.TheVariants.{Take}
 use Rattle.cluster_unit.specs.declared.turn.Turn.{Turn}
-use Rattle.cluster_unit.specs.declared.turn.Turn.TheVariants.{Did, Idle}
+use Rattle.cluster_unit.specs.declared.turn.Turn.TheVariants.{Idle}
 use Rattle.cluster_unit.specs.View.{CoreView}
 use Rattle.cluster_unit.specs.Ends.{place, knows, Looked}
-use Rattle.cluster_unit.specs.Core.{HasRun, IsAt}
+use Rattle.cluster_unit.specs.Core.{HasRun}
 use Rattle.cluster_unit.specs.Turns.{spent}
 use Rattle.cluster_unit.specs.Choosing.{Performed}
 use Rattle.cluster_unit.specs.Settling.{FirstToSettle, Settled, Settles}

@@ -1,10 +1,10 @@
 -- What a search for the first choice by which a cluster settles tells.
-use Rattle.std.specs.Prelude.{◌≡◌, ◌⊎◌, ℕ, ◌<◌, true, false, Option, None, Some, List, slice_get}
+use Rattle.std.specs.Prelude.{◌≡◌, ℕ, ◌<◌, true, false, Option, None, Some, List, slice_get}
 use Rattle.dash_base.specs.declared.id.LineId.{LineId}
 use Rattle.dash_msg.specs.declared.classes.Class.{Class}
 use Rattle.dash_msg.specs.declared.classes.Class.TheVariants.{Request, Reply}
 use Rattle.mesh_lanes.specs.View.{InletView}
-use Rattle.dash_model.specs.Config.{Config, cluster_id, line_id}
+use Rattle.dash_model.specs.Config.{Config, cluster_id}
 use Rattle.dash_model.specs.Part.{Part}
 use Rattle.dash_model.specs.Settling.{IsInTheWay}
 use Rattle.unit_rows.specs.declared.choice.Choice.{Choice}

@@ -27,13 +27,7 @@ pub fn find_room(site: &Site, parts: &Parts, hart: u32, cause: Cause) -> Option<
 }
 
 /// The choice to give up one of these lines: each line that the hart may give up is there.
-fn room_among(
-    site: &Site,
-    parts: &Parts,
-    hart: u32,
-    cause: Cause,
-    lines: &[u32],
-) -> Option<Choice>
+fn room_among(site: &Site, parts: &Parts, hart: u32, cause: Cause, lines: &[u32]) -> Option<Choice>
     requires sized { AreSized (config site.now) site.now.cluster.0 (shown parts.now) }
     requires stores { StoresAreOfMemory (config site.now) (shown parts.now) }
     requires hart { hart < site.now.topology.harts }

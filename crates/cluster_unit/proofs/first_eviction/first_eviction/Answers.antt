@@ -1,4 +1,4 @@
-use Rattle.std.proofs.Common.{ℕ, arith}
+use Rattle.std.proofs.Common.{arith}
 use Rattle.dash_base.specs.declared.id.LineId.{LineId}
 use Rattle.unit_rows.specs.declared.choice.Choice.TheVariants.{Evict}
 use Rattle.unit_rows.specs.Shown.{config, shown}

@@ -1,4 +1,4 @@
-use Rattle.std.proofs.Common.{◌≡◌, arith}
+use Rattle.std.proofs.Common.{arith}
 use Rattle.std.proofs.lemmas.List.{get_or_default}
 use Rattle.unit_rows.specs.Shown.{config, shown}
 use Rattle.cluster_unit.proofs.FirstOnes.{none_of_next, none_of_lines, first_of_lines}

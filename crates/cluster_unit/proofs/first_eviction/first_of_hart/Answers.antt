@@ -1,4 +1,4 @@
-use Rattle.std.proofs.Common.{◌≡◌, ℕ, List, sym, subst}
+use Rattle.std.proofs.Common.{ℕ, List, sym, subst}
 use Rattle.unit_rows.specs.Shown.{config, shown}
 use Rattle.cluster_unit.specs.Victims.{HasVictims}
 use Rattle.cluster_unit.proofs.first_eviction.first_of_hart.Goals as goal

@@ -1,4 +1,4 @@
-use Rattle.std.proofs.Common.{◌≡◌, refl}
+use Rattle.std.proofs.Common.{refl}
 use Rattle.cluster_unit.proofs.first_serial.enabled.Goals as goal
 
 pub returns-then-not-is_enabled : goal.returns-then-not-is_enabled

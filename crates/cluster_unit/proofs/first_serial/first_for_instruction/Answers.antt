@@ -1,8 +1,6 @@
-use Rattle.std.proofs.Common.{rules, ◌≡◌, ◌≢◌, ℕ, List, refl, sym, ap, ◌∙◌, subst, arith}
 use Rattle.unit_rows.specs.Shown.{config, shown}
 use Rattle.cluster_unit.specs.Serial.{ServesFront}
 use Rattle.std.proofs.Common.{None, Some}
-use Rattle.cluster_unit.specs.SerialSearch.{NoneBefore}
 use Rattle.cluster_unit.proofs.SerialOnes.{none_yet, none_next, one_found, step_at, front_room, front_last}
 use Rattle.cluster_unit.proofs.first_serial.first_for_instruction.Goals as goal
 

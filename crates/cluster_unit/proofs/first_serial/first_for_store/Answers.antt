@@ -1,8 +1,6 @@
-use Rattle.std.proofs.Common.{rules, ◌≡◌, ◌≢◌, ℕ, List, refl, sym, ap, ◌∙◌, subst, arith}
 use Rattle.unit_rows.specs.Shown.{config, shown}
 use Rattle.cluster_unit.specs.Serial.{ServesStore}
 use Rattle.std.proofs.Common.{None, Some}
-use Rattle.cluster_unit.specs.SerialSearch.{NoneBefore}
 use Rattle.cluster_unit.proofs.SerialOnes.{none_yet, none_next, none_at_1, one_found, commit_at, store_room, store_last}
 use Rattle.cluster_unit.proofs.first_serial.first_for_store.Goals as goal
 

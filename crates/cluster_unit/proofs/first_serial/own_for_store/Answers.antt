@@ -1,4 +1,3 @@
-use Rattle.std.proofs.Common.{rules, ◌≡◌, ◌≢◌, ℕ, List, refl, sym, ap, ◌∙◌, subst, arith}
 use Rattle.unit_rows.specs.Shown.{config, shown}
 use Rattle.cluster_unit.proofs.SerialOnes.{no_store, store_at}
 use Rattle.cluster_unit.proofs.first_serial.own_for_store.Goals as goal

@@ -1,5 +1,4 @@
 use Rattle.std.proofs.Common.{ℕ, ◌<◌, ◌≤◌}
-use Rattle.remote_cache.specs.View.{count}
 use Rattle.unit_rows.specs.declared.choice.Choice.TheVariants.{Grant}
 use Rattle.unit_rows.specs.Rows.{Cannot}
 use Rattle.unit_rows.specs.Shown.{config, shown}

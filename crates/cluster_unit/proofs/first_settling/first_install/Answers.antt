@@ -1,4 +1,4 @@
-use Rattle.std.proofs.Common.{◌≡◌, arith}
+use Rattle.std.proofs.Common.{arith}
 use Rattle.unit_rows.specs.Shown.{config, shown}
 use Rattle.cluster_unit.proofs.FirstOnes.{no_slot}
 use Rattle.cluster_unit.proofs.first_settling.first_install.Goals as goal

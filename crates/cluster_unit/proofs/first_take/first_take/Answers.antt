@@ -1,5 +1,5 @@
-use Rattle.std.proofs.Common.{◌≡◌, refl, arith}
-use Rattle.cluster_unit.proofs.Looking.{looked_none, looked_more}
+use Rattle.std.proofs.Common.{arith}
+use Rattle.cluster_unit.proofs.Looking.{looked_more}
 use Rattle.cluster_unit.proofs.SettleTurns.{none_more, one_shown}
 use Rattle.cluster_unit.proofs.first_take.first_take.Goals as goal
 

@@ -1,4 +1,3 @@
-use Rattle.std.proofs.Common.{rules, ◌≡◌, ◌≢◌, ℕ, List, refl, sym, ap, ◌∙◌, subst, arith}
 use Rattle.unit_rows.specs.Shown.{config, shown}
 use Rattle.cluster_unit.proofs.SerialOnes.{room_of_store, no_room_of_store, room_of_front, no_room_of_front}
 use Rattle.cluster_unit.proofs.room.is_for.Goals as goal

@@ -1,4 +1,3 @@
-use Rattle.std.proofs.Common.{rules, ◌≡◌, ◌≢◌, ℕ, List, refl, sym, ap, ◌∙◌, subst, arith}
 use Rattle.unit_rows.specs.Shown.{config, shown}
 use Rattle.cluster_unit.proofs.SerialOnes.{reads_way, writes_way, neither_way}
 use Rattle.cluster_unit.proofs.room.is_for_instruction.Goals as goal

@@ -1,7 +1,6 @@
-use Rattle.std.proofs.Common.{rules, ◌≡◌, ◌≢◌, ℕ, List, refl, sym, ap, ◌∙◌, subst, arith}
+use Rattle.std.proofs.Common.{refl, arith}
 use Rattle.unit_rows.specs.Shown.{config, shown}
 use Rattle.std.proofs.lemmas.List.{get_or_default}
-use Rattle.dash_model.specs.Config.{line_id}
 use Rattle.cluster_unit.proofs.SerialOnes.{no_room_next, no_room}
 use Rattle.cluster_unit.proofs.room.room_among.Goals as goal
 

@@ -1,4 +1,4 @@
-use Rattle.std.proofs.Common.{◌≡◌, ◌<◌, sym, subst}
+use Rattle.std.proofs.Common.{subst}
 use Rattle.unit_rows.specs.Shown.{shown}
 use Rattle.unit_rows.proofs.LawsOffered.{stores_are_of_memory}
 use Rattle.cluster_unit.specs.View.{CoreView}
