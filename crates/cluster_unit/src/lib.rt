@@ -1,7 +1,7 @@
 //! A cluster as a unit: what it may do next, and each event that it does as a step of the written machine.
 #![tactic(auto)]
 
-pub use fresh_lanes::Inlets;
+pub use fresh_units::units;
 pub use meeting::meet_units;
 pub use turn::Turn;
 pub use unit::Unit;
@@ -21,6 +21,7 @@ mod first_serial;
 mod first_settling;
 mod first_take;
 mod fresh_lanes;
+mod fresh_units;
 mod grants;
 mod list;
 mod listing;
