@@ -16,3 +16,6 @@ pub mod InTheWay
 pub mod EvictListing
 pub mod Fitting
 pub mod ByChoice
+pub mod FirstOnes
+pub mod SettleTurns
+pub mod SerialOnes

@@ -23,7 +23,7 @@ use Rattle.cluster_unit.specs.Choosing.{Shown, MayDo, Lists}
 use Rattle.cluster_unit.proofs.Cores.{shows_at, core_kept, ends_back}
 use Rattle.cluster_unit.proofs.TakesListed.{IsTakeOf, takes_just, takes_whole, takes_ordered, order_append, before_each, before_take}
 
-own_may : (b : CoreView) (x : Choice) (p : Part) → is_take x ≡ false → Enabled b.config b.cluster x p → MayDo b x p
+pub own_may : (b : CoreView) (x : Choice) (p : Part) → is_take x ≡ false → Enabled b.config b.cluster x p → MayDo b x p
 own_may b (choice.Take f k) p own able = absurd (cc)
 own_may b (choice.Step k) p own able = able
 own_may b (choice.Commit k) p own able = able
@@ -40,7 +40,7 @@ pub data Kinds (b : CoreView) (x : Choice) (p : Part) : Type 0 where
   Own : is_take x ≡ false → Enabled b.config b.cluster x p → Kinds b x p
   Takes : (f : ClusterId) (k : Class) → x ≡ choice.Take f k → Shown b f k → Kinds b x p
 
-kinds : (b : CoreView) (x : Choice) (p : Part) → MayDo b x p → Kinds b x p
+pub kinds : (b : CoreView) (x : Choice) (p : Part) → MayDo b x p → Kinds b x p
 kinds b (choice.Take f k) p may = Takes f k refl may
 kinds b (choice.Step k) p may = Own refl may
 kinds b (choice.Commit k) p may = Own refl may

@@ -36,7 +36,7 @@ unfolding Guard
 grant_waits w c i v p (kind.Grant a) d sized shows is guard = word_waits w c (config.lock_at w a.word.0) v p guard.waiter guard.others shows (own_of w c v a.word sized guard.mine) guard.queue
 grant_waits w c i v p e d sized shows is guard = absurd is
 
-no_grant : (w : Config) (c : ℕ) (v : PartsView) (p : Part) (y : Choice) → AreSized w c v → waiting v.locks ≡ 0 → Shows w c v p → Enabled w c y p → kind_place y ≡ 8 → ⊥
+pub no_grant : (w : Config) (c : ℕ) (v : PartsView) (p : Part) (y : Choice) → AreSized w c v → waiting v.locks ≡ 0 → Shows w c v p → Enabled w c y p → kind_place y ≡ 8 → ⊥
 no_grant w c v p (choice.Grant i) sized none shows able at = let some = grant_waits w c i v p able.event able.done sized shows able.is_of able.guard in omega (arith, some, none)
 no_grant w c v p y sized none shows able at = omega (arith, at)
 

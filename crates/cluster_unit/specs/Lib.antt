@@ -10,6 +10,10 @@ pub mod Turns
 pub mod Messages
 pub mod Reserving
 pub mod Choosing
+pub mod Settling
+pub mod Searching
+pub mod Serial
+pub mod SerialSearch
 pub mod Takes
 pub mod Fresh
 pub mod Meeting

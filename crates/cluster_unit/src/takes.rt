@@ -54,7 +54,7 @@ fn list_one(inlets: &mut [Inlet], from: u32, class: Class, choices: &mut Vec<Cho
 }
 
 /// Whether an end shows a message.
-fn look(inlets: &mut [Inlet], at: usize) -> bool
+pub fn look(inlets: &mut [Inlet], at: usize) -> bool
     requires { at < length inlets.old }
     ensures looked { Looked inlets.old inlets.new }
     ensures others { (j : ℕ) → j ≢ at → slice_get inlets.new j ≡ slice_get inlets.old j }

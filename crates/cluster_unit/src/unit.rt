@@ -109,7 +109,7 @@ impl Logged for Unit {
 }
 
 /// The steps after a call, and by how much they were ahead at most.
-fn count(turn: Turn, harts: u32, turns: u64, steps: u64, ahead: u64) -> (u64, u64)
+pub fn count(turn: Turn, harts: u32, turns: u64, steps: u64, ahead: u64) -> (u64, u64)
     requires { harts ≤ 4 }
     ensures steps { result.0 ≡ steps_after turn steps }
     ensures ahead { result.1 ≡ ahead_after turn harts turns result.0 ahead }

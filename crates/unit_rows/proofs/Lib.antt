@@ -6,6 +6,7 @@ pub mod Harts
 pub mod Locals
 pub mod Openings
 pub mod OtherLines
+pub mod InWayOfCame
 pub mod LineTakes
 pub mod HomeRows
 pub mod Homes

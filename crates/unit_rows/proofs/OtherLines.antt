@@ -82,7 +82,7 @@ came_slot h n t own waits.Refused e same = absurd (cc)
 came_slot h n t true (waits.Came d) e same = same
 came_slot h n t false (waits.Came d) e same = same
 
-came_at : (w : Config) (c k l n : ℕ) (v : PartsView) (p : Part) (o : Option Request) → IsOnePerLine v.slots.slots → Shows w c v p → slot_at v.slots n ≡ o → came_other w k l o ≡ true → Another w l (ComesFor (hart_at w c k)) p
+pub came_at : (w : Config) (c k l n : ℕ) (v : PartsView) (p : Part) (o : Option Request) → IsOnePerLine v.slots.slots → Shows w c v p → slot_at v.slots n ≡ o → came_other w k l o ≡ true → Another w l (ComesFor (hart_at w c k)) p
 came_at w c k l n v p None one shows at e = absurd (cc)
 came_at w c k l n v p (Some s) one shows at e =
     let parts = both (s.hart == k && is_some (came_in s.phase)) (is_other w (Some s.line) l) e in
@@ -127,7 +127,7 @@ none_by w c k l q v None at none apart index r = absurd r
 none_by w c k l q v (Some n) at none apart index r =
     let t : true ≡ false = sym (none_at w c k l n q v (slot_at v n) refl (lines_have_one_slot.has_line v q n at) apart index r) ∙ none n in absurd (cc)
 
-none_came : (w : Config) (c k l : ℕ) (v : PartsView) (p : Part) → ((n : ℕ) → came_other w k l (slot_at v.slots n) ≡ false) → Shows w c v p → Another w l (ComesFor (hart_at w c k)) p → ⊥
+pub none_came : (w : Config) (c k l : ℕ) (v : PartsView) (p : Part) → ((n : ℕ) → came_other w k l (slot_at v.slots n) ≡ false) → Shows w c v p → Another w l (ComesFor (hart_at w c k)) p → ⊥
 none_came w c k l v p none shows o = none_by w c k l o.other v.slots (slot_of v.slots o.other) refl none o.differs o.index (subst (CameFor (hart_at w c k)) (shows.slots o.other) o.is_so)
 
 -- all causes together

@@ -26,6 +26,8 @@ pub use requests::{again, fits_again, fits_request, request};
 pub use site::Site;
 pub use source::Source;
 pub use stores::{fits_store, store};
+pub use wanted::{reads_other, stores_other, writes_other};
+pub use ways::in_the_way;
 
 mod atomics;
 mod burst;
@@ -56,3 +58,4 @@ mod source;
 mod stores;
 mod sweep;
 mod wanted;
+mod ways;

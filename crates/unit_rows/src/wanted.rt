@@ -34,7 +34,7 @@ pub fn wants_other(site: &Site, parts: &Parts, hart: u32, line: LineId) -> bool
 }
 
 /// Whether another line with the index of this one came to a slot of a hart.
-fn comes_other(site: &Site, slots: &Slots, hart: u32, line: LineId) -> bool
+pub fn comes_other(site: &Site, slots: &Slots, hart: u32, line: LineId) -> bool
     ensures { SlotTells (config site.now) slots.now hart line.0 result }
 {
     for id in 0..slots.count() {
@@ -67,7 +67,7 @@ fn has_come(phase: Phase) -> bool
 }
 
 /// Whether a hart needs a copy of another line with the index of this one, which its cluster has.
-fn reads_other(site: &Site, parts: &Parts, hart: u32, line: LineId) -> bool
+pub fn reads_other(site: &Site, parts: &Parts, hart: u32, line: LineId) -> bool
     requires sized { AreSized (config site.now) site.now.cluster.0 (shown parts.now) }
     requires hart { hart < site.now.topology.harts }
     ensures { Tells (config site.now) site.now.cluster.0 (shown parts.now) line.0 (CanRead (config site.now) (hart_at (config site.now) site.now.cluster.0 hart)) result }
@@ -80,7 +80,7 @@ fn reads_other(site: &Site, parts: &Parts, hart: u32, line: LineId) -> bool
 
 /// Whether a hart's instruction needs to own another line with the index of this one, of which its
 /// cluster has an owner.
-fn writes_other(site: &Site, parts: &Parts, hart: u32, line: LineId) -> bool
+pub fn writes_other(site: &Site, parts: &Parts, hart: u32, line: LineId) -> bool
     requires sized { AreSized (config site.now) site.now.cluster.0 (shown parts.now) }
     requires hart { hart < site.now.topology.harts }
     ensures { Tells (config site.now) site.now.cluster.0 (shown parts.now) line.0 (CanWrite (config site.now) (hart_at (config site.now) site.now.cluster.0 hart)) result }
@@ -93,7 +93,7 @@ fn writes_other(site: &Site, parts: &Parts, hart: u32, line: LineId) -> bool
 
 /// Whether a hart's oldest store needs to own another line with the index of this one, of which its
 /// cluster has an owner.
-fn stores_other(site: &Site, parts: &Parts, hart: u32, line: LineId) -> bool
+pub fn stores_other(site: &Site, parts: &Parts, hart: u32, line: LineId) -> bool
     requires sized { AreSized (config site.now) site.now.cluster.0 (shown parts.now) }
     requires hart { hart < site.now.topology.harts }
     ensures { Tells (config site.now) site.now.cluster.0 (shown parts.now) line.0 (CanStore (config site.now) (hart_at (config site.now) site.now.cluster.0 hart)) result }

@@ -1,7 +1,7 @@
 use Rattle.std.proofs.Common.{◌≡◌, ◌≤◌, ◌<◌, length, slice_set, slice_index_or, ◌∙◌, ap, sym, subst, ◌∷◌, []}
 use Rattle.std.proofs.lemmas.List.{get_or_default}
 use Rattle.dash_msg.specs.Classes.{class_of}
-use Rattle.mesh_lanes.specs.View.{OutletView, with_sent}
+use Rattle.mesh_lanes.specs.View.{OutletView}
 use Rattle.cluster_unit.specs.Ends.{place, Sends}
 use Rattle.cluster_unit.proofs.Sending.{SendsOn, sent_on, sends_one, sends_past}
 use Rattle.cluster_unit.proofs.ends.send.Goals as goal

@@ -1,0 +1,9 @@
+use Rattle.unit_rows.specs.Shown.{config, shown}
+use Rattle.cluster_unit.proofs.SerialOnes.{no_write, write_at}
+use Rattle.cluster_unit.proofs.first_serial.own_for_instruction.Goals as goal
+
+pub returns-in_default : goal.returns-in_default
+returns-in_default c = no_write (config c.args.site.now) c.args.site.now.cluster.0 c.args.hart (shown c.args.parts.now) c.in_default.ensures.needed
+
+pub returns : goal.returns
+returns c = write_at (config c.args.site.now) c.args.site.now.cluster.0 c.args.hart (shown c.args.parts.now) c.in-Some.line c.enabled.result c.in-Some.ensures.needed c.enabled.ensures
