@@ -4,6 +4,7 @@ ghost use Rattle.cluster_unit.specs.Fresh.{AreUnsent, AreUntaken};
 
 use crate::fresh_lanes::Inlets;
 use crate::unit::Unit;
+use arbiter::Arbiter;
 use dash_base::{ClusterId, OutOfMemory, Topology};
 use elf_load::Image;
 use mesh_lanes::Outlet;
@@ -12,17 +13,20 @@ use std::mem;
 use unit_rows::Site;
 
 /// The units of all clusters of a machine at the start of a run, in the order of the clusters, with the
-/// lanes between them. Each takes the next of these images, of which there is one for each cluster, and
-/// chooses in rotation.
+/// lanes between them. Each takes the next of these images, and of these boxes by which it chooses, or
+/// none; there is one of each for each cluster.
 pub fn units(
     alloc: Global,
     topology: &Topology,
     images: Vec<Image>,
+    arbiters: Vec<Option<Box<dyn Arbiter + Send>>>,
 ) -> Result<Vec<Unit>, OutOfMemory>
-    requires { length images.items ≡ topology.now.clusters }
+    requires images { length images.items ≡ topology.now.clusters }
+    requires arbiters { length arbiters.items ≡ topology.now.clusters }
     ensures { IfOk result (λ units. length units.items ≡ topology.now.clusters) }
 {
     let mut images = images;
+    let mut arbiters = arbiters;
     let clusters = topology.clusters;
     let mut inlets = Inlets::new(alloc, clusters)?;
     let mut outlets = all_outlets(alloc, &mut inlets, clusters)?;
@@ -35,7 +39,8 @@ pub fn units(
         };
         let sending = mem::replace(&mut outlets[cluster as usize], Vec::new(alloc));
         let receiving = mem::replace(&mut inlets.rows[cluster as usize], Vec::new(alloc));
-        units.push(Unit::new(alloc, site, sending, receiving, None)?)?;
+        let arbiter = arbiters.remove(0);
+        units.push(Unit::new(alloc, site, sending, receiving, arbiter)?)?;
     }
     Ok(units)
 }
