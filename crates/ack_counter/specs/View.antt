@@ -1,5 +1,5 @@
 -- A table of acknowledgements as contracts see it: a finite map from lines to what is counted of them.
-use Rattle.std.specs.Prelude.{ℕ, zero, suc, ◌+◌, Bool, false, if◌then◌else◌, Option, Some, None, option_map, is_some, nat_lt, count_by, refl}
+use Rattle.std.specs.Prelude.{ℕ, zero, suc, ◌+◌, ◌==◌, Bool, false, if◌then◌else◌, Option, Some, None, option_map, is_some, nat_lt, count_by, refl}
 use Rattle.std.specs.Ordering.{nat_cmp}
 use Rattle.std.specs.FinMap as fin
 use Rattle.std.specs.FinMap.{FinMap}
@@ -45,6 +45,10 @@ count t = fin.len t.entries
 -- whether there may be one more
 abbrev pub has_room : TableView → Bool
 has_room t = nat_lt (count t) t.capacity
+
+-- whether no line has an entry
+abbrev pub is_none_pending : TableView → Bool
+is_none_pending t = count t == 0
 
 -- whether an entry is owed to a hart
 unfoldable pub owes : Counted → ℕ → Bool

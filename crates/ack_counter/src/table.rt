@@ -2,7 +2,7 @@
 ghost use Rattle.std.specs.Prelude.{◌≡◌, ◌<◌, ◌≤◌, ◌^◌, ◌+◌};
 ghost use Rattle.std.specs.Option.{ForSome};
 ghost use Rattle.dash_base.specs.Bounds.{IsBetween};
-ghost use Rattle.ack_counter.specs.View.{count, has_room, is_pending, got_at, owed_to};
+ghost use Rattle.ack_counter.specs.View.{count, has_room, is_none_pending, is_pending, got_at, owed_to};
 ghost use Rattle.ack_counter.specs.Steps.{empty_table, begun, cancelled, granted, acked, owing};
 
 use crate::entries::{self, Entry};
@@ -57,6 +57,13 @@ impl AckTable {
         ensures { result ≡ has_room self.now }
     {
         self.entries.len() < self.capacity as usize
+    }
+
+    /// Whether no line has an entry.
+    pub fn is_empty(&self) -> bool
+        ensures { result ≡ is_none_pending self.now }
+    {
+        self.entries.is_empty()
     }
 
     /// A line's acknowledgements are counted from here on: its entry is a fresh one, also where the

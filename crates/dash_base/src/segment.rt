@@ -1,5 +1,8 @@
 //! A loadable segment of an image.
+ghost use Rattle.std.specs.Prelude.{◌≡◌, IfOk};
 
+use crate::memory::OutOfMemory;
+use std::alloc::Global;
 use std::marker::Model;
 
 /// A segment: `memsz` bytes from the address `vaddr`, of which the first are `bytes` and the others
@@ -29,4 +32,16 @@ impl Segment {
     pub const EXECUTE: u32 = 1;
     /// The bit of `flags` for a segment that may be written.
     pub const WRITE: u32 = 2;
+
+    /// The same segment once more.
+    pub fn copy(&self, alloc: Global) -> Result<Segment, OutOfMemory>
+        ensures { IfOk result (λ segment. segment ≡ self.now) }
+    {
+        Ok(Segment {
+            vaddr: self.vaddr,
+            memsz: self.memsz,
+            flags: self.flags,
+            bytes: Vec::from_slice(alloc, &self.bytes)?,
+        })
+    }
 }

@@ -31,6 +31,17 @@ impl Image {
         Image { entry, segments }
     }
 
+    /// The same image once more.
+    pub fn copy(&self, alloc: Global) -> Result<Image, OutOfMemory>
+        ensures { IfOk result (λ image. image ≡ self.now) }
+    {
+        let mut segments = Vec::new(alloc);
+        for segment in &self.segments {
+            segments.push(segment.copy(alloc)?)?;
+        }
+        Ok(Image::new(self.entry, segments))
+    }
+
     /// The address at which a run begins.
     pub fn entry(&self) -> u32
         ensures { result ≡ self.now.entry }

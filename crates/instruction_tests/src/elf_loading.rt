@@ -61,6 +61,9 @@ fn an_image_has_its_words_where_they_were_linked(rt: HostRuntime) -> Result<(), 
     let words = image.opening_words(rt.alloc(), MEMORY)?;
     assert_eq!(rt; words.len(), 0x4_0000);
     assert_eq!(rt; words.get(0x4003).copied(), Some(0x06b0_0513));
+    let copied = image.copy(rt.alloc())?;
+    assert_eq!(rt; copied.entry(), image.entry());
+    assert_eq!(rt; copied.segments().len(), image.segments().len());
     Ok(())
 }
 

@@ -12,8 +12,7 @@ use Rattle.dash_model.specs.Part.{Part, opening_part}
 use Rattle.dash_model.specs.Machine.{Step, event_of, part_after, Precedes, IsRising}
 use Rattle.dash_model.specs.MachineLaws.{StampsFrom}
 use Rattle.dash_model.specs.LocalRun.{IsLocalRun, LanesMeet, StampsFit, events_of, IsMergeOf}
-use Rattle.dash_model.proofs.Changes.{stamps_rise}
-use Rattle.dash_model.proofs.Merge.{merge_is_run}
+use Rattle.dash_model.proofs.LawsOffered.{stamps_rise, merge_is_run}
 use Rattle.trace_merge.specs.MergedLogs.{IsLogOf, log_of, AreLogs, MergesToRun}
 use Rattle.trace_merge.proofs.Recursion.{each_append, each_weaker, events_append, events_own, events_none, own_moved}
 use Rattle.trace_merge.proofs.Rising.{precedes_of, own_rises, same_rising}
