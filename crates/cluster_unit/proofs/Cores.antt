@@ -32,11 +32,11 @@ use Rattle.unit_rows.specs.Local.{event_at}
 use Rattle.unit_rows.proofs.LawsOffered.{local_more, opening_shows, opening_sized}
 use Rattle.cluster_unit.specs.Enabling.{is_take}
 use Rattle.cluster_unit.specs.View.{CoreView}
-use Rattle.cluster_unit.specs.Ends.{place, parcels, AllOfClass, Carry, AreOfClass, Brought, Sends, HaveSpare}
+use Rattle.cluster_unit.specs.Ends.{place, parcels, AllOfClass, Carry, AreOfClass, Brought, NoneBeyond, Sends, HaveSpare}
 use Rattle.cluster_unit.specs.Core.{HasRun, IsAt, IsCore}
 use Rattle.cluster_unit.specs.Turns.{IsIdle, SameOutlets, Happened, OthersStay, Received}
 use Rattle.cluster_unit.specs.Messages.{Took}
-use Rattle.cluster_unit.proofs.Lanes.{carry_more, brought_more}
+use Rattle.cluster_unit.proofs.Lanes.{carry_more, brought_more, none_beyond_more}
 use Rattle.cluster_unit.proofs.OnePart.{same_part}
 use Rattle.cluster_unit.proofs.Sending.{at_or_not}
 
@@ -48,6 +48,7 @@ has_run v last a capacity k = record {
   ran = k.local.ran;
   carry = subst (λ ps. Carry a.config.top.clusters a.cluster ps a.outlets) (sym k.local.sent_is) k.carry;
   brought = λ honest. subst (λ ps. Brought a.config.top.clusters a.cluster ps a.inlets) (sym k.local.received_is) (k.brought honest);
+  sources = subst (NoneBeyond a.config.top.clusters) (sym k.local.received_is) k.sources;
 }
 
 -- its parts show the one part that its log leads to
@@ -79,6 +80,7 @@ core_kept v last a capacity reserved inlets k less count same = record {
   local = k.local;
   carry = k.carry;
   brought = λ honest f j x low. same (place f j) x ∙ k.brought (λ g i y below. subst (AllOfClass i) (same (place g i) y) (honest g i y below)) f j x low;
+  sources = k.sources;
   sized = k.sized;
   mine = k.mine;
   outlets = k.outlets;
@@ -102,13 +104,15 @@ pub core_more : (v z : PartsView) (last : ℕ) (a : CoreView) (capacity u stamp 
     → Sends a.config.top.clusters stamp ss a.outlets outlets
     → length inlets ≡ length a.inlets
     → ((received : List Packet) → (AreOfClass a.config.top.clusters a.inlets → Brought a.config.top.clusters a.cluster received a.inlets) → AreOfClass a.config.top.clusters inlets → Brought a.config.top.clusters a.cluster (received ++ taken a.cluster u e) inlets)
+    → ((received : List Packet) → NoneBeyond a.config.top.clusters received → NoneBeyond a.config.top.clusters (received ++ taken a.cluster u e))
     → IsCore z stamp (record a { log = a.log ++ event_at a.cluster stamp e ∷ []; outlets = outlets; inlets = inlets; reserved = a.reserved - 1 }) capacity
-core_more v z last a capacity u stamp e ss outlets inlets k some few does sized is sends count brings = record {
+core_more v z last a capacity u stamp e ss outlets inlets k some few does sized is sends count brings sourced = record {
   sent = k.sent ++ map (packet stamp a.cluster) ss;
   received = k.received ++ taken a.cluster u e;
   local = local_more a.config a.cluster v z a.log last k.sent k.received e ss stamp u k.local does is;
   carry = carry_more a.config.top.clusters a.cluster stamp k.sent ss a.outlets outlets k.carry sends;
   brought = brings k.received k.brought;
+  sources = sourced k.received k.sources;
   sized = sized;
   mine = k.mine;
   outlets = sends.count ∙ k.outlets;
@@ -165,7 +169,8 @@ acted v z last a capacity room stamp x e s log vec lent outlets k some own fits 
     rw (log_is, room_is, ends_back vec lent outlets len sends.count)
     (core_more v z last a capacity 0 stamp e (option_to_list s) outlets a.inlets k some (one_message s) does.does sized (stamp_is last stamp is fits ∙ ap (λ ps. next_stamp last (stamp_of ps)) (sym none))
     (subst (λ os. Sends a.config.top.clusters stamp (option_to_list s) os outlets) lent_is sends) refl
-    (λ received before honest. subst (λ ps. Brought a.config.top.clusters a.cluster ps a.inlets) (sym (ap (λ ps. received ++ ps) none ∙ append-nil received)) (before honest)))
+    (λ received before honest. subst (λ ps. Brought a.config.top.clusters a.cluster ps a.inlets) (sym (ap (λ ps. received ++ ps) none ∙ append-nil received)) (before honest))
+    (λ received before. subst (NoneBeyond a.config.top.clusters) (sym (ap (λ ps. received ++ ps) none ∙ append-nil received)) before))
 
 -- and what happened
 pub happened : {Z : Type 0} (v z : PartsView) (a : CoreView) (stamp : ℕ) (x : Choice) (e : Kind) (ss : List Sent) (log : List Event) (vec : Vec OutletView Z) (lent outlets : List OutletView) (inlets : List InletView)
@@ -196,7 +201,8 @@ took v z last a capacity room stamp later at from j q e ss log vec lent outlets 
     rw (log_is, room_is, ends_back vec lent outlets len sends.count, ends_back ins borrowed inlets count others.count)
     (core_more v z last a capacity q.stamp stamp e ss outlets inlets k some few does.does.does sized (stamp_with last q.stamp later stamp later_is is fits ∙ ap (λ ps. next_stamp last (stamp_of ps)) (sym (does.takes q.stamp)))
     (subst (λ os. Sends a.config.top.clusters stamp ss os outlets) lent_is sends) stay.count
-    (λ received before honest. subst (λ ps. Brought a.config.top.clusters a.cluster ps inlets) (sym (ap (λ ps. received ++ ps) (does.takes q.stamp))) (brought_more a.config.top.clusters a.cluster from j q received a.inlets inlets low came stay before honest)))
+    (λ received before honest. subst (λ ps. Brought a.config.top.clusters a.cluster ps inlets) (sym (ap (λ ps. received ++ ps) (does.takes q.stamp))) (brought_more a.config.top.clusters a.cluster from j q received a.inlets inlets low came stay before honest))
+    (λ received before. subst (NoneBeyond a.config.top.clusters) (sym (ap (λ ps. received ++ ps) (does.takes q.stamp))) (none_beyond_more a.config.top.clusters a.cluster from.0 q.stamp q.msg received low before)))
 
 -- what a lane that showed none leaves
 pub none_shown : {Y : Type 0} (v : PartsView) (last : ℕ) (a : CoreView) (capacity at : ℕ) (from : ClusterId) (j : Class) (inlets : List InletView) (ins : Vec InletView Y) (borrowed : List InletView)
@@ -242,6 +248,11 @@ no_parcels : (a b : ℕ) (k : Class) → parcels a b k [] ≡ []
 unfolding lane
 no_parcels a b k = refl
 
+-- no packets are from beyond n clusters
+none_beyond : (n : ℕ) → NoneBeyond n []
+unfolding lane
+none_beyond n f b k high = refl
+
 -- a place among the ends of n clusters
 within : (n d : ℕ) (k : Class) → d < n → place d k < 2 * n
 within n d Request low = grind arith
@@ -268,6 +279,7 @@ opened w c v outlets inlets log capacity mine opening count_out count_in unsent 
   local = record { history = []; events = refl; ran = tt; shows = opening_shows w c v opening; last_is = refl; sent_is = sent_none w c; received_is = received_none c };
   carry = λ d k x low. unsent (place d k) x (subst (λ n. place d k < n) (sym count_out) (within w.top.clusters d k low)) ∙ sym (no_parcels c d k);
   brought = λ honest f k x low. untaken (place f k) x (subst (λ n. place f k < n) (sym count_in) (within w.top.clusters f k low)) ∙ sym (no_parcels f c k);
+  sources = none_beyond w.top.clusters;
   sized = opening_sized w c v opening;
   mine = mine;
   outlets = count_out;

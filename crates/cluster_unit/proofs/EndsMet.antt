@@ -46,6 +46,7 @@ core_met v last a capacity outlets inlets k flushed learned = record {
   local = k.local;
   carry = λ d j x low. flushed.sent (place d j) x ∙ k.carry d j x low;
   brought = λ honest f j x low. learned.received (place f j) x ∙ k.brought (λ g i y below. subst (AllOfClass i) (learned.received (place g i) y) (honest g i y below)) f j x low;
+  sources = k.sources;
   sized = k.sized;
   mine = k.mine;
   outlets = flushed.count ∙ k.outlets;

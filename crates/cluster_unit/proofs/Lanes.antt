@@ -12,7 +12,7 @@ use Rattle.dash_msg.specs.declared.parcel.Sent.{Sent}
 use Rattle.mesh_lanes.specs.View.{OutletView, InletView}
 use Rattle.dash_model.specs.Net.{Packet, same_class, in_lane, lane, packet, parcel}
 use Rattle.dash_model.proofs.LawsOffered.{lane-append}
-use Rattle.cluster_unit.specs.Ends.{place, parcel_of, parcels, AllOfClass, Carry, AreOfClass, Brought, parcels_to, Sends}
+use Rattle.cluster_unit.specs.Ends.{place, parcel_of, parcels, AllOfClass, Carry, AreOfClass, Brought, NoneBeyond, parcels_to, Sends}
 use Rattle.cluster_unit.specs.Turns.{OthersStay}
 
 pub parcels-append : (a b : ℕ) (k : Class) (xs ys : List Packet) → parcels a b k (xs ++ ys) ≡ parcels a b k xs ++ parcels a b k ys
@@ -131,3 +131,16 @@ brought_more n c from k q received old new low got others before honest g j x be
         ∙ brought_was g j x below
         ∙ sym (append-nil (parcels g c j received))
         ∙ ap (λ ps. parcels g c j received ++ ps) (sym (taken_elsewhere from.0 g c q.stamp j q.msg (ap (λ y. (from.0 == g) && same_class y j) class_is ∙ other)))
+
+-- a packet from one of n clusters is in no lane from beyond them
+not_beyond : (n c f u : ℕ) (m : Msg) → f < n → NoneBeyond n (parcel f c m u ∷ [])
+unfolding lane
+not_beyond n c f u m low g b k high =
+    let far : (f == g) ≡ false = grind (arith, nat_tests) in
+    ap (λ i. cond (i && (c == b) && same_class (class_of m) k) (parcel f c m u ∷ []) []) far
+
+-- nothing was taken from beyond n clusters, and the message that is taken now is from one of them
+pub none_beyond_more : (n c f u : ℕ) (m : Msg) (received : List Packet) → f < n → NoneBeyond n received → NoneBeyond n (received ++ parcel f c m u ∷ [])
+none_beyond_more n c f u m received low before g b k high =
+    lane-append g b k received (parcel f c m u ∷ [])
+    ∙ ap₂ (λ (ps qs : List Packet). ps ++ qs) (before g b k high) (not_beyond n c f u m low g b k high)

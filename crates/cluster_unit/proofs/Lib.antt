@@ -1,6 +1,7 @@
 pub mod Lanes
 pub mod Sending
-pub mod Rows
+pub mod FreshLanes
+pub mod FreshUnits
 pub mod OnePart
 pub mod Looking
 pub mod Cores
@@ -19,3 +20,4 @@ pub mod ByChoice
 pub mod FirstOnes
 pub mod SettleTurns
 pub mod SerialOnes
+pub mod NoneWaits

@@ -7,15 +7,16 @@ use Rattle.dash_model.specs.LocalRun.{IsLocalRun, part_at, sent_in, received_in}
 use Rattle.unit_rows.specs.Shown.{PartsView, AreSized}
 use Rattle.unit_rows.specs.Local.{IsLocal}
 use Rattle.cluster_unit.specs.View.{CoreView}
-use Rattle.cluster_unit.specs.Ends.{Carry, AreOfClass, Brought, HaveSpare}
+use Rattle.cluster_unit.specs.Ends.{Carry, AreOfClass, Brought, NoneBeyond, HaveSpare}
 
--- its log is that of a local run of its cluster; its lanes carry what that run sent, and brought what it took, where they brought messages of their class
+-- its log is that of a local run of its cluster; its lanes carry what that run sent, and brought what it took, where they brought messages of their class; and it took nothing from what is no cluster of the machine
 pub record HasRun (a : CoreView) : Type 0 where
   pub history : List Step
   pub events : map event_of history ≡ a.log
   pub ran : IsLocalRun a.config a.cluster (opening_part a.config) history
   pub carry : Carry a.config.top.clusters a.cluster (sent_in a.config a.cluster (opening_part a.config) history) a.outlets
   pub brought : AreOfClass a.config.top.clusters a.inlets → Brought a.config.top.clusters a.cluster (received_in a.cluster history) a.inlets
+  pub sources : NoneBeyond a.config.top.clusters (received_in a.cluster history)
 
 -- the part of the machine that its log leads to
 pub record IsAt (a : CoreView) (p : Part) : Type 0 where
@@ -31,6 +32,7 @@ pub record IsCore (v : PartsView) (last : ℕ) (a : CoreView) (capacity : ℕ) :
   pub local : IsLocal a.config a.cluster v a.log last sent received
   pub carry : Carry a.config.top.clusters a.cluster sent a.outlets
   pub brought : AreOfClass a.config.top.clusters a.inlets → Brought a.config.top.clusters a.cluster received a.inlets
+  pub sources : NoneBeyond a.config.top.clusters received
   pub sized : AreSized a.config a.cluster v
   pub mine : a.cluster < a.config.top.clusters
   pub outlets : length a.outlets ≡ 2 * a.config.top.clusters

@@ -47,6 +47,10 @@ AreOfClass n inlets = (f : ℕ) (k : Class) (x : InletView) → f < n → AllOfC
 abbrev pub Brought : ℕ → ℕ → List Packet → List InletView → Type 0
 Brought n c received inlets = (f : ℕ) (k : Class) (x : InletView) → f < n → (slice_index_or inlets (place f k) x).received ≡ parcels f c k received
 
+-- nothing was taken from what is no cluster of n
+abbrev pub NoneBeyond : ℕ → List Packet → Type 0
+NoneBeyond n received = (f b : ℕ) (k : Class) → n ≤ f → lane f b k received ≡ []
+
 -- what is sent to cluster d of a class, with a stamp, as parcels
 abbrev pub goes_to : ℕ → Class → Sent → Bool
 goes_to d k s = (s.to.0 == d) && same_class (class_of s.msg) k

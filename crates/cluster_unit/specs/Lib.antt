@@ -17,5 +17,7 @@ pub mod SerialSearch
 pub mod Takes
 pub mod Fresh
 pub mod Meeting
+pub mod Wiring
 pub mod Picking
 pub mod Acting
+pub mod Quiet

@@ -80,7 +80,7 @@ impl Core {
 
     /// Takes the next message of the lane of a class from a cluster of the machine. `Idle` where the
     /// lane shows none.
-    pub fn take(&mut self, from: ClusterId, class: Class) -> Turn
+    fn take(&mut self, from: ClusterId, class: Class) -> Turn
         requires reserved { 0 < self.old.reserved }
         requires from { from.0 < self.old.config.top.clusters }
         ensures { TookFrom from class result self.old self.new }

@@ -28,6 +28,7 @@ mod listing;
 mod meeting;
 mod messages;
 mod offers;
+mod quiet;
 mod range;
 mod reserve;
 mod room;

@@ -19,6 +19,9 @@ pub fn meet_units(from: &mut Unit, to: &mut Unit, class: Class) -> u32
     ensures met { Met class result from.new.core to.new.core }
     ensures outlets { Flushed from.old.core.outlets from.new.core.outlets × (from.new.core ≡ record from.old.core { outlets = from.new.core.outlets }) }
     ensures inlets { Learned to.old.core.inlets to.new.core.inlets × (to.new.core ≡ record to.old.core { inlets = to.new.core.inlets }) }
+    ensures sender { (from.new.turns ≡ from.old.turns) × (from.new.steps ≡ from.old.steps) × (from.new.ahead ≡ from.old.ahead) }
+    ensures receiver { (to.new.turns ≡ to.old.turns) × (to.new.steps ≡ to.old.steps) × (to.new.ahead ≡ to.old.ahead) }
+    ensures choosers { (from.new.chooser ≡ from.old.chooser) × (to.new.chooser ≡ to.old.chooser) }
 {
     meet_cores(&mut from.core, &mut to.core, class)
 }
@@ -57,6 +60,8 @@ impl Unit {
         ensures outlets { Flushed self.old.core.outlets self.new.core.outlets }
         ensures inlets { Learned self.old.core.inlets self.new.core.inlets }
         ensures same { self.new.core ≡ record self.old.core { outlets = self.new.core.outlets; inlets = self.new.core.inlets } }
+        ensures counts { (self.new.turns ≡ self.old.turns) × (self.new.steps ≡ self.old.steps) × (self.new.ahead ≡ self.old.ahead) }
+        ensures chooser { self.new.chooser ≡ self.old.chooser }
     {
         self.core.meet_self(class)
     }

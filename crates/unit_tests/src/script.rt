@@ -231,12 +231,11 @@ fn all_units(
     topology: Topology,
     programs: [&[u32]; 4],
 ) -> Result<Vec<Unit>, Fail> {
-    let mut images = Vec::new(alloc);
+    let image = image(alloc, programs)?;
     let mut arbiters = Vec::new(alloc);
     for _cluster in 0..topology.clusters {
-        images.push(image(alloc, programs)?)?;
         arbiters.push(None)?;
     }
-    assert!(rt; images.len() == topology.clusters as usize && arbiters.len() == images.len());
-    Ok(units(alloc, &topology, images, arbiters)?)
+    assert!(rt; arbiters.len() == topology.clusters as usize);
+    Ok(units(alloc, &topology, &image, arbiters)?)
 }

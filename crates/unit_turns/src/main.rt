@@ -38,14 +38,13 @@ fn run(rt: &HostRuntime) -> Option<usize> {
         return None;
     }
     let topology = Topology::simple(1, harts, BUDGET / harts).ok()?;
-    let mut images = Vec::new(alloc);
-    images.push(image(alloc, name.as_str())?).ok()?;
+    let image = image(alloc, name.as_str())?;
     let mut arbiters = Vec::new(alloc);
     arbiters.push(None).ok()?;
     if topology.clusters != 1 {
         return None;
     }
-    let mut units = units(alloc, &topology, images, arbiters).ok()?;
+    let mut units = units(alloc, &topology, &image, arbiters).ok()?;
     let unit = units.get_mut(0)?;
     take_turns(unit, turns)?;
     Some(unit.core.log().len())
