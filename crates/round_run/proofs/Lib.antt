@@ -1,0 +1,11 @@
+pub mod Eaches
+pub mod MetUnits
+pub mod Serials
+pub mod Kept
+pub mod UnitsBelow
+pub mod LogEnds
+pub mod LockEnds
+pub mod LaneEnds
+pub mod HartEnds
+pub mod Endings
+pub mod RoundsCounted

@@ -1,0 +1,21 @@
+use Rattle.std.proofs.Common.{◌≡◌, ℕ, ◌+◌, ◌*◌, ◌<◌, false, length, slice_index_or}
+use Rattle.dash_model.specs.Part.{Part}
+use Rattle.unit_rows.specs.Shown.{hart_at}
+use Rattle.cluster_unit.specs.Core.{IsAt}
+use Rattle.round_run.proofs.ending.waits.Given as goal
+
+abbrev pub invariant-loop-unit : goal.invariant-loop-unit
+invariant-loop-unit g l = record {
+  count : length l.waits.items ≡ l.unit-index * l.topology.harts;
+  each : (c k : ℕ) (d : _) (p : Part) → c < l.unit-index → k < l.topology.harts → IsAt (slice_index_or l.units c d).core p
+      → slice_index_or l.waits.items (c * l.topology.harts + k) false ≡ (p.harts (hart_at (slice_index_or l.units c d).core.config (slice_index_or l.units c d).core.cluster k)).asked;
+}
+
+abbrev pub invariant-loop-hart : goal.invariant-loop-hart
+invariant-loop-hart g l = record {
+  count : length l.waits.items ≡ l.unit-index * l.topology.harts + l.hart;
+  each : (c k : ℕ) (d : _) (p : Part) → c < l.unit-index → k < l.topology.harts → IsAt (slice_index_or l.units c d).core p
+      → slice_index_or l.waits.items (c * l.topology.harts + k) false ≡ (p.harts (hart_at (slice_index_or l.units c d).core.config (slice_index_or l.units c d).core.cluster k)).asked;
+  here : (k : ℕ) (p : Part) → k < l.hart → IsAt l.unit.core p
+      → slice_index_or l.waits.items (l.unit-index * l.topology.harts + k) false ≡ (p.harts (hart_at l.unit.core.config l.unit.core.cluster k)).asked;
+}
