@@ -9,6 +9,8 @@ import tempfile
 
 ROOT = os.path.dirname(os.path.dirname(os.path.realpath(__file__)))
 LAUNCHER = os.path.join(ROOT, "dash")
+# What the launcher builds and runs: for many short runs, once it is built.
+PROGRAM = os.path.join(ROOT, "crates", "dash", "out", "dash")
 # A run that takes so many seconds hangs; the slowest run here takes a small part of it.
 HANG = 120
 

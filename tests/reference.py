@@ -9,6 +9,7 @@ docs/formats.md. It shares no code with the program, takes one slow step for eac
 proved.
 """
 
+import functools
 import os
 import re
 import struct
@@ -196,6 +197,12 @@ def field(word, high, low):
     return (word >> low) & ((1 << (high - low + 1)) - 1)
 
 
+@functools.lru_cache(maxsize=4096)
+def fields_of(word):
+    """opcode, rd, funct3, rs1, rs2 and funct7."""
+    return tuple(field(word, high, low) for high, low in ((6, 0), (11, 7), (14, 12), (19, 15), (24, 20), (31, 25)))
+
+
 def i_immediate(word):
     return signed(field(word, 31, 20), 12)
 
@@ -277,19 +284,29 @@ ATOMICS = {
 }
 SWAP, LR, SC = 0b00001, 0b00010, 0b00011
 
+# The low five bits of the immediate of an ORI with rd 0 that is a hint to fetch, to read or to write.
+HINTS = (0b00000, 0b00001, 0b00011)
+
 LABELS = {(0, 0): "-", (1, 0): "a", (0, 1): "r", (1, 1): "ar"}
 
 
 class Machine:
-    """Memory, lock words and console, the harts that share them, and the accesses so far."""
+    """Memory, lock words and console, the harts that share them, and the accesses so far.
 
-    def __init__(self, image, clusters=1, harts=1, budget=BUDGET):
+    An SC may fail always: those in `failing`, each by its hart and the number of its instruction, do.
+    """
+
+    def __init__(self, image, clusters=1, harts=1, budget=BUDGET, failing=frozenset()):
         self.image = image
         self.budget = budget
+        self.failing = failing
         self.memory = bytearray(image.opening)
         self.locks = [0] * LOCK_WORDS
         self.console = bytearray()
         self.accesses = []
+        # The addresses of hints, and the accesses of SCs that failed only since they were to.
+        self.hints = []
+        self.made_to_fail = []
         count = clusters * harts
         stack = MEMORY // (4 * count) // 16 * 16
         self.harts = [Hart(self, number, count, stack) for number in range(count)]
@@ -432,9 +449,12 @@ class Hart:
             return self.lock_word(operation, aq, rl, address, operand)
         self.check(address, 4, True)
         if operation == SC:
-            succeeds = self.reserved == address
+            has_reserved, must_fail = self.reserved == address, (self.number, self.retired + 1) in self.machine.failing
+            succeeds = has_reserved and not must_fail
             self.reserved = None
             self.record("sc", labels, address, 4, None, operand if succeeds else None)
+            if has_reserved and must_fail:
+                self.machine.made_to_fail.append(address)
             if succeeds:
                 self.write(address, 4, operand)
             return int(not succeeds)
@@ -449,10 +469,8 @@ class Hart:
         word = self.machine.image.fetch(self.pc)
         if word is None:
             raise trap("fetch", self.pc)
-        opcode, rd, funct3 = field(word, 6, 0), field(word, 11, 7), field(word, 14, 12)
-        rs1, rs2, funct7 = field(word, 19, 15), field(word, 24, 20), field(word, 31, 25)
+        opcode, rd, funct3, rs1, rs2, funct7 = fields_of(word)
         a, b = self.registers[rs1], self.registers[rs2]
-        illegal = trap("illegal", word)
         target = self.pc + 4
         result = None
 
@@ -464,49 +482,51 @@ class Hart:
             result, target = target, self.pc + j_immediate(word)
         elif opcode == 0b1100111:  # JALR
             if funct3 != 0:
-                raise illegal
+                raise trap("illegal", word)
             result, target = target, (a + i_immediate(word)) & ~1
         elif opcode == 0b1100011:  # BEQ to BGEU
             if funct3 not in BRANCHES:
-                raise illegal
+                raise trap("illegal", word)
             if BRANCHES[funct3](a, b):
                 target = self.pc + b_immediate(word)
         elif opcode == 0b0000011:  # LB to LHU
             if funct3 not in LOADS:
-                raise illegal
+                raise trap("illegal", word)
             size, is_signed = LOADS[funct3]
             result = self.load((a + i_immediate(word)) & MASK, size, is_signed)
         elif opcode == 0b0100011:  # SB to SW
             if funct3 not in STORES:
-                raise illegal
+                raise trap("illegal", word)
             self.store((a + s_immediate(word)) & MASK, STORES[funct3], b)
         elif opcode == 0b0010011:  # ADDI to SRAI; the prefetches are ORI with rd 0, and change nothing either
             if funct3 in (0b001, 0b101):
                 row, operand = (funct3, funct7), rs2
             else:
                 row, operand = (funct3, 0), i_immediate(word) & MASK
+            if funct3 == 0b110 and rd == 0 and operand & 0b11111 in HINTS:
+                self.machine.hints.append(a + (operand & ~0b11111) & MASK)
             if row not in ARITHMETIC or row[1] == MULTIPLY:
-                raise illegal
+                raise trap("illegal", word)
             result = ARITHMETIC[row](a, operand)
         elif opcode == 0b0110011:  # ADD to REMU
             if (funct3, funct7) not in ARITHMETIC:
-                raise illegal
+                raise trap("illegal", word)
             result = ARITHMETIC[funct3, funct7](a, b)
         elif opcode == 0b0101111:  # LR to AMOMAXU
             operation = field(word, 31, 27)
             is_row = operation in ATOMICS or operation == SC or operation == LR and rs2 == 0
             if funct3 != 0b010 or not is_row:
-                raise illegal
+                raise trap("illegal", word)
             result = self.atomic(operation, field(word, 26, 26), field(word, 25, 25), a, b)
         elif opcode == 0b0001111:  # FENCE: accesses are performed at once, so there is nothing to wait for
             if funct3 != 0:
-                raise illegal
+                raise trap("illegal", word)
         elif word == 0x00000073:  # ECALL
             self.call()
         elif word == 0x00100073:  # EBREAK
             raise trap("break", 0)
         else:
-            raise illegal
+            raise trap("illegal", word)
 
         target &= MASK
         if target % 4 != 0:
@@ -538,16 +558,24 @@ def topology_refusal(clusters, harts, budget):
     return None
 
 
-def run_bytes(data, clusters=1, harts=1, budget=BUDGET):
-    """What the program prints on standard output and on standard error for these bytes, and its status."""
+def refusal_of(data, clusters, harts, budget):
+    """The line on standard error and the status of what is refused, or None."""
     refusal = topology_refusal(clusters, harts, budget)
     if refusal is not None:
-        return b"", f"dash: topology: {refusal}\n".encode(), MISSHAPEN
+        return f"dash: topology: {refusal}\n".encode(), MISSHAPEN
     try:
-        image = Image(data)
+        Image(data)
     except Refusal as refusal:
-        return b"", f"dash: image: {refusal}\n".encode(), REFUSED
-    machine = Machine(image, clusters, harts, budget)
+        return f"dash: image: {refusal}\n".encode(), REFUSED
+    return None
+
+
+def run_bytes(data, clusters=1, harts=1, budget=BUDGET):
+    """What the program prints on standard output and on standard error for these bytes, and its status."""
+    refused = refusal_of(data, clusters, harts, budget)
+    if refused is not None:
+        return b"", *refused
+    machine = Machine(Image(data), clusters, harts, budget)
     machine.run()
     return machine.report(), b"", machine.status()
 
