@@ -11,14 +11,14 @@ use std::io::{ErrorKind, Read, Write};
 /// Reads real files, and writes standard output and standard error. It tells contracts neither the
 /// files nor what was printed, and counts its faults.
 #[derive(Drop)]
-pub struct RealHost {
-    rt: HostRuntime,
+pub struct RealHost<'a> {
+    rt: &'a HostRuntime,
     load_faults: u64,
     print_faults: u64,
 }
 
-impl RealHost {
-    pub fn new(rt: HostRuntime) -> RealHost {
+impl<'a> RealHost<'a> {
+    pub fn new(rt: &'a HostRuntime) -> RealHost<'a> {
         RealHost {
             rt,
             load_faults: 0,
@@ -27,7 +27,7 @@ impl RealHost {
     }
 }
 
-impl Host for RealHost {
+impl<'a> Host for RealHost<'a> {
     ghost files = { λ h. None };
 
     ghost printed = { λ h. None };
@@ -39,7 +39,7 @@ impl Host for RealHost {
     ghost may_load = { λ h name. true };
 
     fn load(&mut self, alloc: Global, name: &str, limit: u64) -> Result<Vec<u8>, LoadFault> {
-        match read(&self.rt, alloc, name, limit) {
+        match read(self.rt, alloc, name, limit) {
             Ok(Contents::Whole(bytes)) => Ok(bytes),
             Ok(Contents::Larger(size)) => Err(LoadFault::TooLarge { size }),
             Err(error) if error.kind() == ErrorKind::OutOfMemory => Err(LoadFault::OutOfMemory),

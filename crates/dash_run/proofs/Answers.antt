@@ -11,18 +11,19 @@ use Rattle.elf_load.specs.declared.refusal.LoadRefusal.TheVariants as load_refus
 use Rattle.dash_run.specs.declared.output.Output.{Output}
 use Rattle.dash_run.specs.declared.output.Output.TheVariants.{Usage, Line, Report}
 use Rattle.dash_run.specs.CommandLine.{Request}
+use Rattle.dash_run.specs.Ran.{Ran}
 use Rattle.dash_run.specs.Output.{IsAnswer, IsAnswerOn, IsReport}
 
-pub report_on : (bytes : List ℕ) (image : ImageView) (t : Topology) (m : MemoryMap) (output : Output)
-    → m.base ≡ t.base → m.size ≡ t.memory → IsLoadable bytes m → image ≡ image_of bytes → IsReport image t output → IsAnswerOn t bytes output
-report_on bytes image t m Usage base size accepted same report = report
-report_on bytes image t m (Line status text) base size accepted same report = absurd report
-report_on bytes image t m (Report status console harts accesses log) base size accepted same report = record {
+pub report_on : (bytes : List ℕ) (image : ImageView) (t : Topology) (m : MemoryMap) (output : Output) (ran : Ran)
+    → m.base ≡ t.base → m.size ≡ t.memory → IsLoadable bytes m → image ≡ image_of bytes → IsReport (record { image = image; top = t }) output ran → IsAnswerOn t bytes output ran
+report_on bytes image t m Usage ran base size accepted same report = report
+report_on bytes image t m (Line status text) ran base size accepted same report = absurd report
+report_on bytes image t m (Report status console harts accesses) ran base size accepted same report = record {
   map = m;
   base = base;
   size = size;
   accepted = accepted;
-  report = let for_image : ImageView → Type 0 = λ i. IsReport i t (Report status console harts accesses log) in subst for_image same report;
+  report = let for_image : ImageView → Type 0 = λ i. IsReport (record { image = i; top = t }) (Report status console harts accesses) ran in subst for_image same report;
 }
 
 -- a refusal for another cause than memory is the one that applies
@@ -31,26 +32,29 @@ refusal_applies bytes map load_refusal.OutOfMemory other refuses = absurd (other
 refusal_applies bytes map refusal other refuses = refuses
 
 -- the output on a topology that was asked for is the output
-pub answer_on_asked : (q : Request) (t : Topology) (bytes : List ℕ) (output : Output)
-    → IsSimple q.clusters q.harts q.budget t → simple_refusal q.clusters q.harts q.budget ≡ None → IsAnswerOn t bytes output → IsAnswer q bytes output
-answer_on_asked q t bytes Usage simple accepted answer = answer
-answer_on_asked q t bytes (Line status text) simple accepted answer = inr (record {
-  refusal = answer.refusal;
-  refused = record {
-    machine = t;
-    map = answer.map;
-    is_machine = record { simple = simple; accepted = accepted; base = answer.base; size = answer.size };
-    refused = answer.refused;
-  };
-  status_is = answer.status_is;
-  text_is = answer.text_is;
-})
-answer_on_asked q t bytes (Report status console harts accesses log) simple accepted answer = record {
+pub answer_on_asked : (q : Request) (t : Topology) (bytes : List ℕ) (output : Output) (ran : Ran)
+    → IsSimple q.clusters q.harts q.budget t → simple_refusal q.clusters q.harts q.budget ≡ None → IsAnswerOn t bytes output ran → IsAnswer q bytes output ran
+answer_on_asked q t bytes Usage ran simple accepted answer = answer
+answer_on_asked q t bytes (Line status text) ran simple accepted (answer, none) = (
+  inr (record {
+    refusal = answer.refusal;
+    refused = record {
+      machine = t;
+      map = answer.map;
+      is_machine = record { simple = simple; accepted = accepted; base = answer.base; size = answer.size };
+      refused = answer.refused;
+    };
+    status_is = answer.status_is;
+    text_is = answer.text_is;
+  }),
+  none,
+)
+answer_on_asked q t bytes (Report status console harts accesses) ran simple accepted answer = record {
   machine = t;
   map = answer.map;
   is_machine = record { simple = simple; accepted = accepted; base = answer.base; size = answer.size };
   accepted = answer.accepted;
-  state = (answer.report).state;
+  cause = (answer.report).cause;
   run = (answer.report).run;
   is_status = (answer.report).is_status;
   is_report = (answer.report).is_report;

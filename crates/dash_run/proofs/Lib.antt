@@ -5,8 +5,13 @@ pub mod Maps
 pub mod Requests
 pub mod Answers
 pub mod Outputs
+pub mod Records
+pub mod Topologies
+pub mod Runs
+pub mod Units
 pub mod Causes
 pub mod Converses
-pub mod Turns
-pub mod Runs
+pub mod Reports
+pub mod Theorem
+pub mod Broken
 pub mod HostCalls

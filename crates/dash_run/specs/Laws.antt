@@ -1,46 +1,43 @@
--- Laws of a run's log, in the words of the sequential machine. Each is the contract of a function of `laws`.
-use Rattle.std.specs.Prelude.{◌≡◌, ℕ, ◌+◌, List, map, Some, slice_get}
-use Rattle.dash_base.specs.declared.topology.Topology.{Topology}
-use Rattle.elf_load.specs.Image.{ImageView}
+-- Laws of reports. Each is the contract of a function of `laws`.
+use Rattle.std.specs.Prelude.{◌≡◌, ℕ, ◌<◌, Some, List, [], map}
+use Rattle.dash_base.specs.Outside.{Files}
+use Rattle.dash_base.specs.declared.end.End.TheVariants.{Running}
 use Rattle.dash_event.specs.declared.event.Event.{Event}
-use Rattle.dash_event.specs.Records.{unseen, accesses_of, records_of}
-use Rattle.flat_model.specs.State.{FlatState}
-use Rattle.flat_model.specs.Run.{IsCompleteSequentialRun}
-use Rattle.flat_model.specs.Driven.{IsDriven}
+use Rattle.dash_event.specs.Records.{unseen, accesses_of, records_of, console_of}
 use Rattle.flat_model.specs.FlatEnd as flat
+use Rattle.dash_model.specs.Config.{Config, all_harts}
+use Rattle.dash_model.specs.Machine.{Machine, Reaches}
+use Rattle.dash_model.specs.Complete.{IsComplete, IsCompleteRun, IsWaiting}
 use Rattle.dash_run.specs.CommandLine.{Request}
-use Rattle.dash_run.specs.Log.{IsLogged, IsRotationRun}
 use Rattle.dash_run.specs.Outcome.{IsReported}
-
--- the records of a log are those of the run that takes the same harts in order
-abbrev pub LoggedRunsAreDriven : Type 0
-LoggedRunsAreDriven =
-    (image : ImageView) (t : Topology) (hs : List ℕ) (log : List Event) (s : FlatState) → IsLogged image t hs log s → IsDriven image t hs (records_of log) s
-
--- the records of the log of a run in rotation are those of a complete sequential run
-abbrev pub RotationRunIsComplete : Type 0
-RotationRunIsComplete =
-    (image : ImageView) (t : Topology) (log : List Event) (final : FlatState) → IsRotationRun image t log final
-    → IsCompleteSequentialRun image t (records_of log) final
+use Rattle.dash_run.specs.Ran.{Ran}
+use Rattle.dash_run.specs.Report.{hart_of}
+use Rattle.dash_run.specs.Theorem.{IsAskedFor}
 
 -- the accesses of a log, which the report prints, are those of its records in their order, but for what they were shown
 abbrev pub PrintedAccessesAreTheRecords : Type 0
 PrintedAccessesAreTheRecords = (log : List Event) → map unseen (accesses_of log) ≡ flat.accesses_of (records_of log)
 
--- an image has one run in rotation: its log and its final state do not depend on when it is seen to have ended
-abbrev pub OneRotationRun : Type 0
-OneRotationRun =
-    (image : ImageView) (t : Topology) (log log' : List Event) (final final' : FlatState)
-    → IsRotationRun image t log final → IsRotationRun image t log' final' → (log ≡ log') × (final ≡ final')
+-- the console of the state that a run leads to is that of its log
+abbrev pub ConsoleIsOfTheLog : Type 0
+ConsoleIsOfTheLog = (w : Config) (log : List Event) (m : Machine) → Reaches w log m → m.console ≡ console_of log
 
--- the events of the log of a run in rotation are stamped from 1 on
-abbrev pub StampsCount : Type 0
-StampsCount =
-    (image : ImageView) (t : Topology) (log : List Event) (final : FlatState) → IsRotationRun image t log final
-    → (i : ℕ) (e : Event) → slice_get log i ≡ Some e → e.stamp ≡ i + 1
+-- where a complete run ends, a hart that runs and has instructions left waits for a lock word
+abbrev pub HartsThatAreLeftWait : Type 0
+HartsThatAreLeftWait =
+    (w : Config) (m : Machine) → IsComplete w m → (h : ℕ) → h < all_harts w
+    → (hart_of w m h).end ≡ Running → (hart_of w m h).retired < w.top.budget → IsWaiting w h m
 
--- a report is one: a request and the bytes of an image's file have one exit status, one report and one log
+-- something happens in each complete run
+abbrev pub CompleteRunsAreNotEmpty : Type 0
+CompleteRunsAreNotEmpty = (w : Config) → IsCompleteRun w [] → ⊥
+
+-- a log has one report: whatever else two calls for a request and the bytes of an image's file left, where their logs are one, so are exit status and report
 abbrev pub OneReport : Type 0
 OneReport =
-    (q : Request) (bytes : List ℕ) (status status' : ℕ) (texts texts' : List (List ℕ)) (log log' : List Event)
-    → IsReported q bytes status texts log → IsReported q bytes status' texts' log' → (status ≡ status') × (texts ≡ texts') × (log ≡ log')
+    (q : Request) (bytes : List ℕ) (status status' : ℕ) (texts texts' : List (List ℕ)) (ran ran' : Ran)
+    → IsReported q bytes status texts ran → IsReported q bytes status' texts' ran' → ran.log ≡ ran'.log → (status ≡ status') × (texts ≡ texts')
+
+-- where the host tells its files, the words ask for one machine
+abbrev pub OneMachine : Type 0
+OneMachine = (words : List (List ℕ)) (file_at : Files) (w w' : Config) → IsAskedFor words (Some file_at) w → IsAskedFor words (Some file_at) w' → w ≡ w'

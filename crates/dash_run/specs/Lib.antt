@@ -1,8 +1,9 @@
 pub mod CommandLine
-pub mod Log
+pub mod Ran
+pub mod Units
 pub mod Report
 pub mod Outcome
 pub mod Output
-pub mod Turns
+pub mod Theorem
 pub mod Laws
 pub mod Statuses

@@ -1,5 +1,5 @@
 -- The output of a call of the program, and how it may end.
-use Rattle.std.specs.Prelude.{◌≡◌, ℕ, ◌<◌, ◌≤◌, ◌⊎◌, List, [], ◌∷◌, ◌++◌, length, map, fold, codes, decimal, Option, Some, None, IfSome, IsSomeAnd}
+use Rattle.std.specs.Prelude.{◌≡◌, ℕ, Bool, ◌<◌, ◌≤◌, ◌⊎◌, List, [], ◌∷◌, ◌++◌, length, map, fold, codes, decimal, Option, Some, None, IfSome, IsSomeAnd}
 use Rattle.dash_base.specs.Outside.{Files, Printed, Appends, AppendsPart, Follows, Rose, last_count, Call, load_of, print_on, failed_print_on, with_calls}
 use Rattle.dash_base.specs.Names.{key_name}
 use Rattle.dash_base.specs.Topology.{IsSimple, simple_refusal}
@@ -8,19 +8,17 @@ use Rattle.dash_base.specs.declared.host.Stream.TheVariants as stream
 use Rattle.dash_base.specs.declared.topology.Topology.{Topology}
 use Rattle.dash_base.specs.declared.topology.TopoRefusal.{TopoRefusal}
 use Rattle.dash_base.specs.declared.topology.TopoRefusal.TheVariants as topo
-use Rattle.dash_event.specs.declared.event.Event.{Event}
-use Rattle.dash_event.specs.Records.{records_of}
 use Rattle.elf_load.specs.Loader.{image_of}
 use Rattle.elf_load.specs.Refusal.{IsFirstRefusal, IsLoadable}
 use Rattle.elf_load.specs.declared.memory_map.MemoryMap.{MemoryMap}
 use Rattle.elf_load.specs.declared.refusal.LoadRefusal.{LoadRefusal}
 use Rattle.elf_load.specs.declared.refusal.LoadRefusal.TheVariants.{Short, NotElf, NotClass32Little, NotRiscv, NotExec, Compressed, Reduced, HeaderSize, SegmentOutOfFile, FileSizeAboveMemory, SegmentOutOfMemory, Overlap, NoSegment, EntryNotExecutable, OutOfMemory}
-use Rattle.flat_model.specs.State.{FlatState}
-use Rattle.flat_model.specs.Run.{IsCompleteSequentialRun}
-use Rattle.flat_model.specs.Represents.{harts_of}
+use Rattle.round_run.specs.Finished.{IsFinished, status_of}
+use Rattle.round_run.specs.declared.finished.Cause.{Cause}
+use Rattle.dash_model.specs.Config.{Config}
 use Rattle.dash_run.specs.CommandLine.{Request, Asks, IsUsageError}
-use Rattle.dash_run.specs.Log.{IsRotationRun}
-use Rattle.dash_run.specs.Report.{report_of, status_of}
+use Rattle.dash_run.specs.Ran.{Ran, no_run, itself}
+use Rattle.dash_run.specs.Report.{report_of}
 use Rattle.trace_text.specs.Spelling.{newline, hex}
 
 -- an image file has at most so many bytes
@@ -90,16 +88,25 @@ pub record IsRefused (q : Request) (bytes : List ℕ) (refusal : LoadRefusal) : 
   pub is_machine : IsMachine q machine map
   pub refused : IsFirstRefusal bytes map refusal
 
--- the topology and an image with these bytes are accepted, and its run in rotation ends with this exit status, report and log
-pub record IsReported (q : Request) (bytes : List ℕ) (status : ℕ) (texts : List (List ℕ)) (log : List Event) : Type 0 where
+-- what a run is of: the image of a file, on a topology
+abbrev pub config_of : List ℕ → Topology → Config
+config_of bytes t = record { image = image_of bytes; top = t }
+
+-- a run of machine w ended, for this cause
+pub record IsRunOf (w : Config) (ran : Ran) (cause : Cause) : Type 0 where
+  pub waits : List Bool
+  pub finished : IsFinished itself w ran.log ran.units ran.rounds waits cause
+
+-- the topology and an image with these bytes are accepted, and a run of it ended with this exit status and report
+pub record IsReported (q : Request) (bytes : List ℕ) (status : ℕ) (texts : List (List ℕ)) (ran : Ran) : Type 0 where
   pub machine : Topology
   pub map : MemoryMap
   pub is_machine : IsMachine q machine map
   pub accepted : IsLoadable bytes map
-  pub state : FlatState
-  pub run : IsRotationRun (image_of bytes) machine log state
-  pub is_status : status ≡ status_of machine (harts_of machine state)
-  pub is_report : texts ≡ report_of machine state log
+  pub cause : Cause
+  pub run : IsRunOf (config_of bytes machine) ran cause
+  pub is_status : status ≡ status_of cause
+  pub is_report : texts ≡ report_of (config_of bytes machine) run.finished.end status ran.log
 
 -- the image's file is within the limit, and has these bytes where files are told
 pub record IsGiven (files : Option Files) (name bytes : List ℕ) : Type 0 where
@@ -111,25 +118,25 @@ pub record IsTooLarge (files : Option Files) (name : List ℕ) (size : ℕ) : Ty
   pub large : image_limit < size
   pub told : IfSome files (λ file_at. IsSomeAnd (file_at name) (λ bytes. length bytes ≡ size))
 
--- The output of a call, an exit status, texts on one stream, each for a print, and a log, and why. The counts are the host's failed loads, before and after.
-pub data IsOutput (words : List (List ℕ)) (files : Option Files) (before after : ℕ) : ℕ → Stream → List (List ℕ) → List Event → Type 0 where
+-- The output of a call, an exit status, texts on one stream, each for a print, and what is left of a run, and why. The counts are the host's failed loads, before and after.
+pub data IsOutput (words : List (List ℕ)) (files : Option Files) (before after : ℕ) : ℕ → Stream → List (List ℕ) → Ran → Type 0 where
   -- the words have no form that is served
-  usage : IsUsageError words → after ≡ before → IsOutput words files before after 2 stream.Err (usage_line ∷ []) []
+  usage : IsUsageError words → after ≡ before → IsOutput words files before after 2 stream.Err (usage_line ∷ []) no_run
   -- the image's file couldn't be read
   failed : (q : Request) → Asks words q → Rose before after
-      → IsOutput words files before after 5 stream.Err (failed_line q.name ∷ []) []
+      → IsOutput words files before after 5 stream.Err (failed_line q.name ∷ []) no_run
   -- it is larger than the limit
   large : (q : Request) (size : ℕ) → Asks words q → IsTooLarge files q.name size → after ≡ before
-      → IsOutput words files before after 5 stream.Err (large_line q.name size ∷ []) []
+      → IsOutput words files before after 5 stream.Err (large_line q.name size ∷ []) no_run
   -- the topology is refused
   bad_topology : (q : Request) (bytes : List ℕ) (refusal : TopoRefusal) → Asks words q → IsGiven files q.name bytes → IsRefusedTopology q refusal → after ≡ before
-      → IsOutput words files before after 4 stream.Err (topology_line refusal ∷ []) []
+      → IsOutput words files before after 4 stream.Err (topology_line refusal ∷ []) no_run
   -- the image is refused
   refused : (q : Request) (bytes : List ℕ) (refusal : LoadRefusal) → Asks words q → IsGiven files q.name bytes → IsRefused q bytes refusal → after ≡ before
-      → IsOutput words files before after 3 stream.Err (refusal_line refusal ∷ []) []
+      → IsOutput words files before after 3 stream.Err (refusal_line refusal ∷ []) no_run
   -- its run is reported
-  reported : (q : Request) (bytes : List ℕ) (status : ℕ) (texts : List (List ℕ)) (log : List Event) → Asks words q → IsGiven files q.name bytes → IsReported q bytes status texts log → after ≡ before
-      → IsOutput words files before after status stream.Out texts log
+  reported : (q : Request) (bytes : List ℕ) (status : ℕ) (texts : List (List ℕ)) (ran : Ran) → Asks words q → IsGiven files q.name bytes → IsReported q bytes status texts ran → after ≡ before
+      → IsOutput words files before after status stream.Out texts ran
 
 -- a count of a host's faults, what it had printed, or the calls that were made of it, before a call and after it
 pub record Change (A : Type 0) : Type 0 where
@@ -167,17 +174,17 @@ pub record PrintsPart (words : List (List ℕ)) (to : Stream) (texts : List (Lis
   pub breaks_off : BreakOff to texts tried
   pub made : calls.new ≡ with_calls calls.old (loaded ++ tried)
 
--- how a call ended, with an exit status and a log
-pub data Ends (words : List (List ℕ)) (files : Option Files) (loads prints : Change ℕ) (printed : Change (Option Printed)) (calls : Change (Option (List Call))) : ℕ → List Event → Type 0 where
+-- how a call ended, with an exit status and what it left of a run
+pub data Ends (words : List (List ℕ)) (files : Option Files) (loads prints : Change ℕ) (printed : Change (Option Printed)) (calls : Change (Option (List Call))) : ℕ → Ran → Type 0 where
   -- it printed its whole output
-  printed_all : (status : ℕ) (to : Stream) (texts : List (List ℕ)) (log : List Event) → IsOutput words files loads.old loads.new status to texts log
-      → prints.new ≡ prints.old → Follows (Appends to (joined texts)) printed.old printed.new → PrintsAll words to texts calls → Ends words files loads prints printed calls status log
+  printed_all : (status : ℕ) (to : Stream) (texts : List (List ℕ)) (ran : Ran) → IsOutput words files loads.old loads.new status to texts ran
+      → prints.new ≡ prints.old → Follows (Appends to (joined texts)) printed.old printed.new → PrintsAll words to texts calls → Ends words files loads prints printed calls status ran
   -- a print failed, after a part of it
-  print_failed : (status : ℕ) (to : Stream) (texts : List (List ℕ)) (log : List Event) → IsOutput words files loads.old loads.new status to texts log
-      → Rose prints.old prints.new → Follows (AppendsPart to (joined texts)) printed.old printed.new → PrintsPart words to texts calls → Ends words files loads prints printed calls 5 log
+  print_failed : (status : ℕ) (to : Stream) (texts : List (List ℕ)) (ran : Ran) → IsOutput words files loads.old loads.new status to texts ran
+      → Rose prints.old prints.new → Follows (AppendsPart to (joined texts)) printed.old printed.new → PrintsPart words to texts calls → Ends words files loads prints printed calls 5 ran
   -- there was no memory: it printed nothing
   out_of_memory : (q : Request) → Asks words q
-      → prints.new ≡ prints.old → printed.new ≡ printed.old → calls.new ≡ with_calls calls.old (load_of q.name ∷ []) → Ends words files loads prints printed calls 6 []
+      → prints.new ≡ prints.old → printed.new ≡ printed.old → calls.new ≡ with_calls calls.old (load_of q.name ∷ []) → Ends words files loads prints printed calls 6 no_run
 
 -- the exit statuses of a run
 abbrev pub IsRunStatus : ℕ → Type 0
@@ -206,27 +213,14 @@ pub record NamesRefused (words : List (List ℕ)) (files : Option Files) : Type 
   pub refusal : LoadRefusal
   pub refused : IsRefused request bytes refusal
 
--- the words ask for a run that ends with this status and log
-pub record NamesRun (words : List (List ℕ)) (files : Option Files) (status : ℕ) (log : List Event) : Type 0 where
+-- the words ask for a run that ends with this status, and leaves this
+pub record NamesRun (words : List (List ℕ)) (files : Option Files) (status : ℕ) (ran : Ran) : Type 0 where
   pub request : Request
   pub asked : Asks words request
   pub bytes : List ℕ
   pub given : IsGiven files request.name bytes
   pub texts : List (List ℕ)
-  pub reported : IsReported request bytes status texts log
-
--- the words ask for a run whose log is that of a complete sequential run within the budgets
-pub record RunsSequentially (words : List (List ℕ)) (files : Option Files) (log : List Event) : Type 0 where
-  pub request : Request
-  pub asked : Asks words request
-  pub bytes : List ℕ
-  pub given : IsGiven files request.name bytes
-  pub machine : Topology
-  pub map : MemoryMap
-  pub is_machine : IsMachine request machine map
-  pub accepted : IsLoadable bytes map
-  pub final : FlatState
-  pub complete : IsCompleteSequentialRun (image_of bytes) machine (records_of log) final
+  pub reported : IsReported request bytes status texts ran
 
 -- the words ask for an image that is larger than the limit
 pub record NamesLarge (words : List (List ℕ)) (files : Option Files) : Type 0 where

@@ -1,44 +1,38 @@
 -- What the program has ready to print, as contracts see it.
-use Rattle.std.specs.Prelude.{◌≡◌, ℕ, ◌⊎◌, List, [], ◌∷◌, Option, string_bytes}
+use Rattle.std.specs.Prelude.{◌≡◌, ℕ, ◌⊎◌, List, ◌∷◌, [], Option, string_bytes}
 use Rattle.dash_base.specs.Outside.{Call, with_calls}
 use Rattle.dash_base.specs.declared.host.Stream.{Stream}
 use Rattle.dash_base.specs.declared.host.Stream.TheVariants as stream
 use Rattle.dash_base.specs.declared.topology.Topology.{Topology}
 use Rattle.dash_base.specs.declared.topology.TopoRefusal.{TopoRefusal}
-use Rattle.dash_event.specs.declared.event.Event.{Event}
-use Rattle.elf_load.specs.Image.{ImageView}
-use Rattle.elf_load.specs.Loader.{image_of}
 use Rattle.elf_load.specs.Refusal.{IsFirstRefusal, IsLoadable}
 use Rattle.elf_load.specs.declared.memory_map.MemoryMap.{MemoryMap}
 use Rattle.elf_load.specs.declared.refusal.LoadRefusal.{LoadRefusal}
-use Rattle.flat_model.specs.State.{FlatState}
-use Rattle.flat_model.specs.Represents.{harts_of}
+use Rattle.round_run.specs.Finished.{status_of}
+use Rattle.round_run.specs.declared.finished.Cause.{Cause}
+use Rattle.dash_model.specs.Config.{Config}
 use Rattle.dash_run.specs.declared.output.Output.{Output}
 use Rattle.dash_run.specs.declared.output.Output.TheVariants.{Usage, Line, Report}
 use Rattle.dash_run.specs.CommandLine.{Request}
-use Rattle.dash_run.specs.Log.{IsRotationRun}
-use Rattle.dash_run.specs.Report.{report_of, status_of}
-use Rattle.dash_run.specs.Outcome.{usage_line, topology_line, refusal_line, IsRefusedTopology, IsRefused, IsReported, LoadsOf, BreakOff}
+use Rattle.dash_run.specs.Ran.{Ran, no_run}
+use Rattle.dash_run.specs.Report.{report_of}
+use Rattle.dash_run.specs.Outcome.{usage_line, topology_line, refusal_line, config_of, IsRunOf, IsRefusedTopology, IsRefused, IsReported, LoadsOf, BreakOff}
 
 abbrev pub output_status : Output → ℕ
 output_status Usage = 2
 output_status (Line status text) = status
-output_status (Report status console harts accesses log) = status
+output_status (Report status console harts accesses) = status
 
 abbrev pub output_stream : Output → Stream
 output_stream Usage = stream.Err
 output_stream (Line status text) = stream.Err
-output_stream (Report status console harts accesses log) = stream.Out
+output_stream (Report status console harts accesses) = stream.Out
 
 -- one text for each print
 abbrev pub output_texts : Output → List (List ℕ)
 output_texts Usage = usage_line ∷ []
 output_texts (Line status text) = string_bytes text ∷ []
-output_texts (Report status console harts accesses log) = console.items ∷ string_bytes harts ∷ string_bytes accesses ∷ []
-
-abbrev pub output_log : Output → List Event
-output_log (Report status console harts accesses log) = log.items
-output_log _ = []
+output_texts (Report status console harts accesses) = console.items ∷ string_bytes harts ∷ string_bytes accesses ∷ []
 
 -- the line for a topology that is refused
 pub record IsTopologyLine (q : Request) (status : ℕ) (text : List ℕ) : Type 0 where
@@ -66,27 +60,27 @@ pub record HasTried (to : Stream) (texts : List (List ℕ)) (old new : Option (L
   pub breaks_off : BreakOff to texts calls
   pub made : new ≡ with_calls old calls
 
--- the output for an image with these bytes
-abbrev pub IsAnswer : Request → List ℕ → Output → Type 0
-IsAnswer q bytes Usage = ⊥
-IsAnswer q bytes (Line status text) = IsTopologyLine q status (string_bytes text) ⊎ IsRefusalLine q bytes status (string_bytes text)
-IsAnswer q bytes (Report status console harts accesses log) =
-    IsReported q bytes status (console.items ∷ string_bytes harts ∷ string_bytes accesses ∷ []) log.items
+-- what is printed for an image with these bytes, and what is left of a run
+abbrev pub IsAnswer : Request → List ℕ → Output → Ran → Type 0
+IsAnswer q bytes Usage ran = ⊥
+IsAnswer q bytes (Line status text) ran = (IsTopologyLine q status (string_bytes text) ⊎ IsRefusalLine q bytes status (string_bytes text)) × (ran ≡ no_run)
+IsAnswer q bytes (Report status console harts accesses) ran =
+    IsReported q bytes status (console.items ∷ string_bytes harts ∷ string_bytes accesses ∷ []) ran
 
--- the report of an image's run
-pub record IsRunReport (image : ImageView) (t : Topology) (status : ℕ) (texts : List (List ℕ)) (log : List Event) : Type 0 where
-  pub state : FlatState
-  pub run : IsRotationRun image t log state
-  pub is_status : status ≡ status_of t (harts_of t state)
-  pub is_report : texts ≡ report_of t state log
+-- the report of a machine's run
+pub record IsRunReport (w : Config) (status : ℕ) (texts : List (List ℕ)) (ran : Ran) : Type 0 where
+  pub cause : Cause
+  pub run : IsRunOf w ran cause
+  pub is_status : status ≡ status_of cause
+  pub is_report : texts ≡ report_of w run.finished.end status ran.log
 
--- the output is that report
-abbrev pub IsReport : ImageView → Topology → Output → Type 0
-IsReport image t (Report status console harts accesses log) =
-    IsRunReport image t status (console.items ∷ string_bytes harts ∷ string_bytes accesses ∷ []) log.items
-IsReport image t _ = ⊥
+-- what is printed is that report
+abbrev pub IsReport : Config → Output → Ran → Type 0
+IsReport w (Report status console harts accesses) ran =
+    IsRunReport w status (console.items ∷ string_bytes harts ∷ string_bytes accesses ∷ []) ran
+IsReport w _ ran = ⊥
 
--- the output on a topology that is accepted: the refusal of the image, or its report
+-- what is printed on a topology that is accepted: the refusal of the image, or its report
 pub record IsRefusalOn (t : Topology) (bytes : List ℕ) (status : ℕ) (text : List ℕ) : Type 0 where
   pub map : MemoryMap
   pub base : map.base ≡ t.base
@@ -96,14 +90,14 @@ pub record IsRefusalOn (t : Topology) (bytes : List ℕ) (status : ℕ) (text : 
   pub status_is : status ≡ 3
   pub text_is : text ≡ refusal_line refusal
 
-pub record IsReportOn (t : Topology) (bytes : List ℕ) (output : Output) : Type 0 where
+pub record IsReportOn (t : Topology) (bytes : List ℕ) (output : Output) (ran : Ran) : Type 0 where
   pub map : MemoryMap
   pub base : map.base ≡ t.base
   pub size : map.size ≡ t.memory
   pub accepted : IsLoadable bytes map
-  pub report : IsReport (image_of bytes) t output
+  pub report : IsReport (config_of bytes t) output ran
 
-abbrev pub IsAnswerOn : Topology → List ℕ → Output → Type 0
-IsAnswerOn t bytes Usage = ⊥
-IsAnswerOn t bytes (Line status text) = IsRefusalOn t bytes status (string_bytes text)
-IsAnswerOn t bytes (Report status console harts accesses log) = IsReportOn t bytes (Report status console harts accesses log)
+abbrev pub IsAnswerOn : Topology → List ℕ → Output → Ran → Type 0
+IsAnswerOn t bytes Usage ran = ⊥
+IsAnswerOn t bytes (Line status text) ran = IsRefusalOn t bytes status (string_bytes text) × (ran ≡ no_run)
+IsAnswerOn t bytes (Report status console harts accesses) ran = IsReportOn t bytes (Report status console harts accesses) ran

@@ -1,15 +1,16 @@
 -- What follows of a call of the program from how it ended: the cause of each status, the status of each cause, and the calls of the host. Each is the contract of a function of `laws`.
-use Rattle.std.specs.Prelude.{◌≡◌, ℕ, ◌<◌, ◌≤◌, ◌⊎◌, List, [], ◌∷◌, length, map, Option}
+use Rattle.std.specs.Prelude.{◌≡◌, ℕ, ◌<◌, ◌≤◌, ◌⊎◌, List, [], ◌∷◌, length, map, Option, Some}
 use Rattle.dash_base.specs.Outside.{Files, Printed, Rose, Call, load_of, print_on, with_calls}
 use Rattle.dash_base.specs.declared.host.Stream.{Stream}
 use Rattle.dash_base.specs.declared.host.Stream.TheVariants as stream
 use Rattle.dash_base.specs.declared.topology.TopoRefusal.{TopoRefusal}
-use Rattle.dash_event.specs.declared.event.Event.{Event}
 use Rattle.elf_load.specs.declared.refusal.LoadRefusal.{LoadRefusal}
 use Rattle.dash_run.specs.CommandLine.{Request, Asks, IsUsageError}
-use Rattle.dash_run.specs.Outcome.{Ends, Change, PrintsPart, IsGiven, IsReported, IsRefusedTopology, IsRefused, IsAccepted, IsRunStatus, IsFault, IsClean, NamesBadTopology, NamesRefused, NamesRun, usage_line, image_limit}
+use Rattle.dash_run.specs.Ran.{Ran}
+use Rattle.dash_run.specs.Theorem.{MadeRun}
+use Rattle.dash_run.specs.Outcome.{Ends, Change, PrintsPart, IsGiven, IsReported, IsRefusedTopology, IsRefused, IsAccepted, IsRunStatus, IsFault, IsSteady, IsClean, NamesBadTopology, NamesRefused, NamesRun, usage_line, image_limit}
 
--- a call of the program: its words, what its host told before and after, its status and its log, and the clause `outcome`
+-- a call of the program: its words, what its host told before and after, its status and what it left of a run, and the clause `outcome`
 pub record TopCall : Type 0 where
   pub words : List (List ℕ)
   pub files : Option Files
@@ -18,8 +19,8 @@ pub record TopCall : Type 0 where
   pub printed : Change (Option Printed)
   pub calls : Change (Option (List Call))
   pub status : ℕ
-  pub log : List Event
-  pub ends : Ends words files loads prints printed calls status log
+  pub ran : Ran
+  pub ends : Ends words files loads prints printed calls status ran
 
 -- no fault was counted in a call that asks for an image with these bytes, which the host tells
 abbrev pub IsCleanCall : TopCall → Request → List ℕ → Type 0
@@ -49,7 +50,7 @@ OutOfMemoryIsQuiet = (c : TopCall) → c.status ≡ 6 → c.printed.new ≡ c.pr
 
 -- the statuses of a run come only for the whole run of an image that is accepted
 abbrev pub RunHasCause : Type 0
-RunHasCause = (c : TopCall) → IsRunStatus c.status → NamesRun c.words c.files c.status c.log
+RunHasCause = (c : TopCall) → IsRunStatus c.status → NamesRun c.words c.files c.status c.ran
 
 -- ---- the status of each cause
 
@@ -87,16 +88,31 @@ AcceptedImageRuns =
     (c : TopCall) (q : Request) (bytes : List ℕ) → IsCleanCall c q bytes → length bytes ≤ image_limit
     → IsAccepted q bytes → IsRunStatus c.status ⊎ (c.status ≡ 6)
 
+-- no load failed in a call that asks for an image with these bytes, which the host tells, and which are within the limit
+pub record IsLoaded (words : List (List ℕ)) (files : Option Files) (loads : Change ℕ) (q : Request) (bytes : List ℕ) : Type 0 where
+  pub asked : Asks words q
+  pub file_at : Files
+  pub told : files ≡ Some file_at
+  pub there : file_at q.name ≡ Some bytes
+  pub loads_steady : IsSteady loads
+  pub small : length bytes ≤ image_limit
+
+-- where no load failed and the image is accepted, status 5 comes after a run, which is left: only its report could not be printed
+abbrev pub FailedReportLeavesRun : Type 0
+FailedReportLeavesRun =
+    (c : TopCall) (q : Request) (bytes : List ℕ) → IsLoaded c.words c.files c.loads q bytes → IsAccepted q bytes → c.status ≡ 5
+    → Rose c.prints.old c.prints.new × MadeRun c.status c.ran.log
+
 -- ---- the calls of the host
 
 -- the host's calls were the load of the image and a print on standard output for each section of the run's report
-pub record MakesRunCalls (words : List (List ℕ)) (files : Option Files) (calls : Change (Option (List Call))) (status : ℕ) (log : List Event) : Type 0 where
+pub record MakesRunCalls (words : List (List ℕ)) (files : Option Files) (calls : Change (Option (List Call))) (status : ℕ) (ran : Ran) : Type 0 where
   pub request : Request
   pub asked : Asks words request
   pub bytes : List ℕ
   pub given : IsGiven files request.name bytes
   pub texts : List (List ℕ)
-  pub reported : IsReported request bytes status texts log
+  pub reported : IsReported request bytes status texts ran
   pub made : calls.new ≡ with_calls calls.old (load_of request.name ∷ map (print_on stream.Out) texts)
 
 -- the last of the host's calls was a print that failed
@@ -107,7 +123,7 @@ pub record StopsAtPrint (words : List (List ℕ)) (calls : Change (Option (List 
 
 -- with the statuses of a run the calls were one load and three prints
 abbrev pub RunsMakeFourCalls : Type 0
-RunsMakeFourCalls = (c : TopCall) → IsRunStatus c.status → MakesRunCalls c.words c.files c.calls c.status c.log
+RunsMakeFourCalls = (c : TopCall) → IsRunStatus c.status → MakesRunCalls c.words c.files c.calls c.status c.ran
 
 -- with status 2 the only call was the print of the usage line
 abbrev pub UsageMakesOneCall : Type 0

@@ -1,44 +1,74 @@
 //! From a topology and the bytes of an image file to what is to be printed.
-ghost use Rattle.std.specs.Prelude.{◌≡◌, IfOk};
+ghost use Rattle.std.specs.Prelude.{◌≡◌, IfOk, map, vec_len};
+ghost use Rattle.round_run.specs.Finished.{IsFinished, status_of};
 ghost use Rattle.dash_run.specs.Output.{IsAnswer, IsAnswerOn, IsReport};
 
 use crate::access_text::access_section;
 use crate::command_line::Command;
 use crate::lines;
-use crate::output::Output;
-use crate::report::{console_section, harts_section, status_of};
-use crate::rotation::run;
+use crate::output::{Output, Prepared};
+use crate::report::{console_section, harts_section};
+use crate::run::Run;
+use arbiter::Arbiter;
 use dash_base::{OutOfMemory, Topology};
 use elf_load::{Image, LoadRefusal, MemoryMap, load};
+use round_run::{Cause, Finished, Gate, Machine, RunEnd, run_rounds};
 use std::alloc::Global;
+use std::sync::Wait;
+use std::thread::Threads;
+use trace_merge::console;
 
-/// The output for an image file with these bytes: the refusal of the topology, or of the image, or
+/// What is printed for an image file with these bytes: the refusal of the topology, or of the image, or
 /// the report of the run.
-pub fn answer(alloc: Global, command: &Command<'_>, bytes: Vec<u8>) -> Result<Output, OutOfMemory>
-    ensures { IfOk result (IsAnswer (record { name = command.now.name.now; clusters = command.now.clusters; harts = command.now.harts; budget = command.now.budget }) bytes.items) }
+pub fn answer<R: Threads + Wait + Sync, G: Gate>(
+    rt: &R,
+    alloc: Global,
+    command: &Command<'_>,
+    bytes: Vec<u8>,
+    gate: &G,
+    arbiters: Vec<Box<dyn Arbiter + Send>>,
+) -> Result<Prepared, OutOfMemory>
+    requires { vec_len arbiters ≡ 16 }
+    ensures { IfOk result (λ a. IsAnswer (record { name = command.now.name.now; clusters = command.now.clusters; harts = command.now.harts; budget = command.now.budget }) bytes.items a.output
+        (record { log = a.run.log.items; units = map (λ u. record { core = u.core; turns = u.turns; steps = u.steps; ahead = u.ahead }) a.run.units.items; rounds = a.run.rounds })) }
 {
     match Topology::simple(command.clusters, command.harts, command.budget) {
-        Ok(topology) => Ok(answer_on(alloc, &topology, bytes)?),
-        Err(refusal) => Ok(Output::Line {
-            status: 4,
-            text: lines::bad_topology(alloc, &refusal)?,
+        Ok(topology) => Ok(answer_on(rt, alloc, &topology, bytes, gate, arbiters)?),
+        Err(refusal) => Ok(Prepared {
+            output: Output::Line {
+                status: 4,
+                text: lines::bad_topology(alloc, &refusal)?,
+            },
+            run: Run::none(alloc),
         }),
     }
 }
 
-/// The output on a topology that is accepted.
-fn answer_on(alloc: Global, topology: &Topology, bytes: Vec<u8>) -> Result<Output, OutOfMemory>
-    ensures { IfOk result (IsAnswerOn topology.now bytes.items) }
+/// What is printed on a topology that is accepted.
+fn answer_on<R: Threads + Wait + Sync, G: Gate>(
+    rt: &R,
+    alloc: Global,
+    topology: &Topology,
+    bytes: Vec<u8>,
+    gate: &G,
+    arbiters: Vec<Box<dyn Arbiter + Send>>,
+) -> Result<Prepared, OutOfMemory>
+    requires { vec_len arbiters ≡ 16 }
+    ensures { IfOk result (λ a. IsAnswerOn topology.now bytes.items a.output
+        (record { log = a.run.log.items; units = map (λ u. record { core = u.core; turns = u.turns; steps = u.steps; ahead = u.ahead }) a.run.units.items; rounds = a.run.rounds })) }
 {
     match load(alloc, bytes.as_slice(), map_of(topology)) {
         Ok(image) => {
             drop(bytes);
-            Ok(report(alloc, &image, topology)?)
+            Ok(report(rt, alloc, &image, topology, gate, arbiters)?)
         }
         Err(LoadRefusal::OutOfMemory) => Err(OutOfMemory),
-        Err(refusal) => Ok(Output::Line {
-            status: 3,
-            text: lines::refused(alloc, refusal)?,
+        Err(refusal) => Ok(Prepared {
+            output: Output::Line {
+                status: 3,
+                text: lines::refused(alloc, refusal)?,
+            },
+            run: Run::none(alloc),
         }),
     }
 }
@@ -55,15 +85,64 @@ fn map_of(topology: &Topology) -> MemoryMap
 }
 
 /// The report of an image's run.
-fn report(alloc: Global, image: &Image, topology: &Topology) -> Result<Output, OutOfMemory>
-    ensures { IfOk result (IsReport image.now topology.now) }
+fn report<R: Threads + Wait + Sync, G: Gate>(
+    rt: &R,
+    alloc: Global,
+    image: &Image,
+    topology: &Topology,
+    gate: &G,
+    arbiters: Vec<Box<dyn Arbiter + Send>>,
+) -> Result<Prepared, OutOfMemory>
+    requires { vec_len arbiters ≡ 16 }
+    ensures { IfOk result (λ a. IsReport (record { image = image.now; top = topology.now }) a.output
+        (record { log = a.run.log.items; units = map (λ u. record { core = u.core; turns = u.turns; steps = u.steps; ahead = u.ahead }) a.run.units.items; rounds = a.run.rounds })) }
 {
-    let finished = run(alloc, image, topology)?;
-    Ok(Output::Report {
-        status: status_of(topology, finished.harts.as_slice()),
-        console: console_section(alloc, finished.console.as_slice())?,
-        harts: harts_section(alloc, topology, finished.harts.as_slice())?,
+    let machine = Machine::new(alloc, topology, image, arbiters)?;
+    match run_rounds(rt, alloc, machine, gate) {
+        Ok(finished) => Ok(report_of(alloc, image, topology, finished)?),
+        Err(RunEnd::OutOfMemory) => Err(OutOfMemory),
+    }
+}
+
+/// The report of a run that ended.
+fn report_of(
+    alloc: Global,
+    image: &Image,
+    topology: &Topology,
+    finished: Finished,
+) -> Result<Prepared, OutOfMemory>
+    requires { IsFinished (λ u. record { core = u.core; turns = u.turns; steps = u.steps; ahead = u.ahead }) (record { image = image.now; top = topology.now }) finished.log.items finished.units.items finished.rounds finished.waits.items finished.cause }
+    ensures { IfOk result (λ a. IsReport (record { image = image.now; top = topology.now }) a.output
+        (record { log = a.run.log.items; units = map (λ u. record { core = u.core; turns = u.turns; steps = u.steps; ahead = u.ahead }) a.run.units.items; rounds = a.run.rounds })) }
+{
+    let status = status_of(finished.cause);
+    let console = console(alloc, finished.log.as_slice())?;
+    let output = Output::Report {
+        status,
+        console: console_section(alloc, console.as_slice())?,
+        harts: harts_section(alloc, topology, finished.units.as_slice(), status)?,
         accesses: access_section(alloc, finished.log.as_slice())?,
-        log: finished.log,
+    };
+    let Finished {
+        log,
+        units,
+        rounds,
+        ..
+    } = finished;
+    Ok(Prepared {
+        output,
+        run: Run { log, units, rounds },
     })
+}
+
+/// The exit status of a run that ended for a cause.
+fn status_of(cause: Cause) -> u8
+    ensures { result ≡ status_of cause }
+{
+    match cause {
+        Cause::Exited => 0,
+        Cause::Budget => 10,
+        Cause::Trapped => 11,
+        Cause::Deadlock => 12,
+    }
 }

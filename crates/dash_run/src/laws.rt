@@ -1,38 +1,42 @@
-//! Laws of a run's log, in the words of the sequential machine, and of the calls of
-//! `dash`: what follows from the clause `outcome`. The functions do nothing: their contracts are the
-//! laws.
-ghost use Rattle.dash_run.specs.Laws.{LoggedRunsAreDriven, RotationRunIsComplete, PrintedAccessesAreTheRecords, OneRotationRun, StampsCount, OneReport};
-ghost use Rattle.dash_run.specs.Statuses.{UsageHasCause, RefusalHasCause, BadTopologyHasCause, FaultHasCause, OutOfMemoryIsQuiet, RunHasCause, NoFormIsUsage, FailedLoadIsFault, FailedPrintIsFault, LargeFileIsFault, BadTopologyIsTold, RefusalIsTold, AcceptedImageRuns, RunsMakeFourCalls, UsageMakesOneCall, NothingAfterFailedPrint};
+//! Laws of reports, and of the calls of `dash`: what follows from the clause `outcome`. The functions do
+//! nothing: their contracts are the laws.
+ghost use Rattle.dash_run.specs.Laws.{PrintedAccessesAreTheRecords, ConsoleIsOfTheLog, HartsThatAreLeftWait, CompleteRunsAreNotEmpty, OneReport, OneMachine};
+ghost use Rattle.dash_run.specs.Statuses.{UsageHasCause, RefusalHasCause, BadTopologyHasCause, FaultHasCause, OutOfMemoryIsQuiet, RunHasCause, NoFormIsUsage, FailedLoadIsFault, FailedPrintIsFault, LargeFileIsFault, BadTopologyIsTold, RefusalIsTold, AcceptedImageRuns, FailedReportLeavesRun, RunsMakeFourCalls, UsageMakesOneCall, NothingAfterFailedPrint};
 
-/// The records of a log are those of the run that takes the same harts in order.
-pub fn logged_runs_are_driven()
-    ensures { LoggedRunsAreDriven }
-{}
-
-/// The records of the log of a run in rotation are those of a complete sequential run.
-pub fn rotation_run_is_complete()
-    ensures { RotationRunIsComplete }
-{}
+use dash_model::laws::events_fix_effects;
 
 /// The accesses of a log, which the report prints, are those of its records, in their order.
 pub fn printed_accesses_are_the_records()
     ensures { PrintedAccessesAreTheRecords }
 {}
 
-/// An image has one run in rotation at most on a machine: one log, and one final state.
-pub fn one_rotation_run()
-    ensures { OneRotationRun }
+/// The console of the state that a run leads to, which the report prints, is that of its log.
+pub fn console_is_of_the_log()
+    ensures { ConsoleIsOfTheLog }
 {}
 
-/// The events of the log of a run in rotation are stamped from 1 on.
-pub fn stamps_count()
-    ensures { StampsCount }
+/// Where a complete run ends, a hart that runs and has instructions left, which the report calls waiting,
+/// waits for a lock word.
+pub fn harts_that_are_left_wait()
+    ensures { HartsThatAreLeftWait }
 {}
 
-/// A request and the bytes of an image's file have one report at most: one exit status, one text and
-/// one log.
+/// Something happens in each complete run.
+pub fn complete_runs_are_not_empty()
+    ensures { CompleteRunsAreNotEmpty }
+{}
+
+/// A log has one report: two calls for a request and the bytes of an image's file, whose logs are one, have
+/// one exit status and one text.
 pub fn one_report()
     ensures { OneReport }
+{
+    events_fix_effects();
+}
+
+/// Where the host tells its files, the words ask for one machine: one image, and one topology.
+pub fn one_machine()
+    ensures { OneMachine }
 {}
 
 /// Status 2 comes only where the words have no form.
@@ -60,7 +64,7 @@ pub fn out_of_memory_is_quiet()
     ensures { OutOfMemoryIsQuiet }
 {}
 
-/// The statuses of a run come only for the whole run of an image that is accepted.
+/// The statuses of a run come only for a whole run of an image that is accepted.
 pub fn run_has_cause()
     ensures { RunHasCause }
 {}
@@ -101,6 +105,12 @@ pub fn refusal_is_told()
 /// status of its run, or 6.
 pub fn accepted_image_runs()
     ensures { AcceptedImageRuns }
+{}
+
+/// Where no load failed and the image and its topology are accepted, status 5 comes after a run, which is
+/// left: a print of its report failed.
+pub fn failed_report_leaves_run()
+    ensures { FailedReportLeavesRun }
 {}
 
 /// With the statuses of a run the calls of the host were one load and three prints.

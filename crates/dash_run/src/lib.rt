@@ -1,7 +1,7 @@
-//! From the words of a command line to the printed report.
+//! From the words of a command line to the printed report of a machine's run.
 //!
-//! [`dash`] is the call that the program makes. Its contract is the theorem: what a call is_output, and how
-//! it may end.
+//! [`dash`] is the call that the program makes. Its contract is the theorem: what a run is, what is printed
+//! of it, and how a call may end.
 #![tactic(auto)]
 
 pub use top::{Ended, dash};
@@ -9,10 +9,9 @@ pub use top::{Ended, dash};
 mod access_text;
 mod answer;
 mod command_line;
-mod event;
 pub mod laws;
 mod lines;
 mod output;
 mod report;
-mod rotation;
+mod run;
 mod top;

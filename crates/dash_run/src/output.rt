@@ -1,9 +1,8 @@
 //! What a call has ready to print.
+use crate::run::Run;
+use crate::top::Ended;
 
-use dash_event::Event;
-use std::alloc::Global;
-
-/// The output of a call when nothing more fails: an exit status, and text on one stream.
+/// What is printed when nothing more fails: an exit status, and text on one stream.
 #[derive(Drop)]
 pub enum Output {
     /// Status 2, and the usage line on standard error.
@@ -13,19 +12,18 @@ pub enum Output {
         status: u8,
         text: String,
     },
-    /// The three sections of a report on standard output, and the log of the run.
+    /// The three sections of a report on standard output.
     Report {
         status: u8,
         console: Vec<u8>,
         harts: String,
         accesses: String,
-        log: Vec<Event>,
     },
 }
 
 impl Output {
     ghost use Rattle.std.specs.Prelude.{◌≡◌};
-    ghost use Rattle.dash_run.specs.Output.{output_status, output_log};
+    ghost use Rattle.dash_run.specs.Output.{output_status};
 
     pub fn status(&self) -> u8
         ensures { result ≡ output_status self.now }
@@ -35,14 +33,26 @@ impl Output {
             Output::Line { status, .. } | Output::Report { status, .. } => *status,
         }
     }
+}
 
-    /// The log of the run, or an empty one where none was made.
-    pub fn into_log(self, alloc: Global) -> Vec<Event>
-        ensures { result.items ≡ output_log self }
+/// What is printed, and the run that it tells of.
+#[derive(Drop)]
+pub struct Prepared {
+    pub output: Output,
+    pub run: Run,
+}
+
+impl Prepared {
+    ghost use Rattle.std.specs.Prelude.{◌≡◌};
+
+    /// The end of a call that leaves its run, with an exit status.
+    pub fn ended(self, status: u8) -> Ended
+        ensures status { result.status ≡ status }
+        ensures log { result.log ≡ self.run.log }
+        ensures units { result.units ≡ self.run.units }
+        ensures rounds { result.rounds ≡ self.run.rounds }
     {
-        match self {
-            Output::Report { log, .. } => log,
-            _ => Vec::new(alloc),
-        }
+        let Prepared { run, .. } = self;
+        run.ended(status)
     }
 }

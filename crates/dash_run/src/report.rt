@@ -1,67 +1,18 @@
-//! The text of a report, and the exit status of a run.
-ghost use Rattle.std.specs.Prelude.{◌≡◌, ◌++◌, codes, length, IfOk, OnOk, string_bytes, nat_lt};
-ghost use Rattle.std.specs.List.{list_any};
+//! The text of a report.
+ghost use Rattle.std.specs.Prelude.{◌≡◌, ◌++◌, ◌<◌, codes, length, IfOk, OnOk, string_bytes, nat_lt};
 ghost use Rattle.trace_text.specs.Spelling.{hex};
-ghost use Rattle.dash_run.specs.Report.{status_of, has_trapped, has_spent, is_left, end_text, console_section, hart_line, register_line, hart_text, harts_text, status_line, harts_section, words_text};
+ghost use Rattle.dash_base.specs.Places.{hart_count};
+ghost use Rattle.elf_load.specs.Image.{ImageView};
+ghost use Rattle.dash_model.specs.Machine.{Machine};
+ghost use Rattle.dash_run.specs.Report.{hart_of, end_text, console_section, hart_line, register_line, hart_text, harts_text, status_line, harts_section, words_text};
+ghost use Rattle.dash_run.specs.Units.{AreOn, AreAt};
 
-use dash_base::{End, OutOfMemory, Topology};
+use cluster_unit::Unit;
+use dash_base::{End, HartId, OutOfMemory, Topology};
 use hart_core::Hart;
 use std::alloc::Global;
 use std::fmt::Write;
 use trace_text::cause_name;
-
-/// The exit status of a run whose harts stopped like this.
-pub fn status_of(topology: &Topology, harts: &[Hart]) -> u8
-    ensures { result ≡ status_of topology.now harts.now }
-{
-    if any_has_trapped(harts) {
-        11
-    } else if any_has_spent(topology, harts) {
-        10
-    } else if any_is_left(topology, harts) {
-        12
-    } else {
-        0
-    }
-}
-
-fn any_has_trapped(harts: &[Hart]) -> bool
-    ensures { result ≡ list_any has_trapped harts.now }
-{
-    harts.iter().any(has_trapped)
-}
-
-fn any_has_spent(topology: &Topology, harts: &[Hart]) -> bool
-    ensures { result ≡ list_any (has_spent topology.now) harts.now }
-{
-    harts.iter().any(|hart| has_spent(topology, hart))
-}
-
-fn any_is_left(topology: &Topology, harts: &[Hart]) -> bool
-    ensures { result ≡ list_any (is_left topology.now) harts.now }
-{
-    harts.iter().any(|hart| is_left(topology, hart))
-}
-
-fn has_trapped(hart: &Hart) -> bool
-    ensures { result ≡ has_trapped hart.now }
-{
-    matches!(hart.end(), End::Trapped { .. })
-}
-
-/// Whether a hart has spent its budget and did not end.
-fn has_spent(topology: &Topology, hart: &Hart) -> bool
-    ensures { result ≡ has_spent topology.now hart.now }
-{
-    matches!(hart.end(), End::Running) && hart.retired() >= topology.budget
-}
-
-/// Whether a hart neither ended nor spent its budget.
-fn is_left(topology: &Topology, hart: &Hart) -> bool
-    ensures { result ≡ is_left topology.now hart.now }
-{
-    matches!(hart.end(), End::Running) && hart.retired() < topology.budget
-}
 
 /// The console section: how many bytes were put, and the bytes.
 #[tactic(auto, unfolding(crate::specs::Report::console_section))]
@@ -81,25 +32,40 @@ pub fn console_section(alloc: Global, console: &[u8]) -> Result<Vec<u8>, OutOfMe
 pub fn harts_section(
     alloc: Global,
     topology: &Topology,
-    harts: &[Hart],
+    units: &[Unit],
+    status: u8,
 ) -> Result<String, OutOfMemory>
-    ensures { IfOk result (λ text. string_bytes text ≡ harts_section topology.now harts.now) }
+    requires { AreOn (λ u. u.core) topology.now units.now }
+    ensures { (image : ImageView) (m : Machine) → AreAt (λ u. u.core) (record { image = image; top = topology.now }) m units.now
+        → IfOk result (λ text. string_bytes text ≡ harts_section topology.now (hart_of (record { image = image; top = topology.now }) m) (hart_count topology.now) status) }
 {
     let mut text = String::new(alloc);
-    push_harts(&mut text, topology, harts)?;
-    let status = status_of(topology, harts);
+    push_harts(&mut text, topology, units)?;
     write!(text, "status {status}\n")?;
     Ok(text)
 }
 
 /// The lines of all harts.
-fn push_harts(text: &mut String, topology: &Topology, harts: &[Hart]) -> Result<(), OutOfMemory>
-    ensures { OnOk result (string_bytes text.new ≡ string_bytes text.old ++ harts_text topology.now 0 harts.now) }
+fn push_harts(text: &mut String, topology: &Topology, units: &[Unit]) -> Result<(), OutOfMemory>
+    requires { AreOn (λ u. u.core) topology.now units.now }
+    ensures { (image : ImageView) (m : Machine) → AreAt (λ u. u.core) (record { image = image; top = topology.now }) m units.now
+        → OnOk result (string_bytes text.new ≡ string_bytes text.old ++ harts_text topology.now (hart_of (record { image = image; top = topology.now }) m) (hart_count topology.now)) }
 {
-    for (number, hart) in harts.iter().enumerate() {
-        push_hart(text, topology, number, hart)?;
+    for number in 0..topology.hart_count() {
+        push_hart(text, topology, number, hart_of(topology, units, number))?;
     }
     Ok(())
+}
+
+/// A hart by its number in the machine.
+fn hart_of<'a>(topology: &Topology, units: &'a [Unit], number: u32) -> &'a Hart
+    requires on { AreOn (λ u. u.core) topology.now units.now }
+    requires inside { number < hart_count topology.now }
+    ensures { (image : ImageView) (m : Machine) → AreAt (λ u. u.core) (record { image = image; top = topology.now }) m units.now
+        → result.now ≡ hart_of (record { image = image; top = topology.now }) m number }
+{
+    let cluster = topology.cluster_of(HartId(number));
+    units[cluster.0 as usize].core.hart(number % topology.harts)
 }
 
 /// The lines of one hart.
@@ -107,7 +73,7 @@ fn push_harts(text: &mut String, topology: &Topology, harts: &[Hart]) -> Result<
 fn push_hart(
     text: &mut String,
     topology: &Topology,
-    number: usize,
+    number: u32,
     hart: &Hart,
 ) -> Result<(), OutOfMemory>
     ensures { OnOk result (string_bytes text.new ≡ string_bytes text.old ++ hart_text topology.now number hart.now) }
@@ -126,7 +92,7 @@ fn push_hart(
 fn push_hart_line(
     text: &mut String,
     topology: &Topology,
-    number: usize,
+    number: u32,
     hart: &Hart,
 ) -> Result<(), OutOfMemory>
     ensures { OnOk result (string_bytes text.new ≡ string_bytes text.old ++ hart_line topology.now number hart.now) }

@@ -1,18 +1,27 @@
 //! The top call: from words and a host to a printed report and an exit status.
-ghost use Rattle.std.specs.Prelude.{◌≡◌, ◌++◌, ◌∷◌, [], IfOk, IsTrue, OnErr, OnOk, map, string_bytes};
+ghost use Rattle.std.specs.Prelude.{◌≡◌, ℕ, ◌≤◌, ◌⊎◌, ◌++◌, ◌∷◌, List, [], length, IfOk, IsTrue, OnErr, OnOk, map, string_bytes, vec_len};
 ghost use Rattle.dash_base.specs.declared.host.Stream.TheVariants as stream;
 ghost use Rattle.dash_base.specs.Outside.{Appends, AppendsPart, Follows, Rose, print_on, with_calls};
 ghost use Rattle.dash_run.specs.CommandLine.{Request, Asks, IsAsked};
-ghost use Rattle.dash_run.specs.Outcome.{IsOutput, Ends, IsRunStatus, RunsSequentially, joined};
-ghost use Rattle.dash_run.specs.Output.{output_status, output_stream, output_texts, output_log, HasLoaded, HasTried};
+ghost use Rattle.dash_run.specs.Outcome.{IsOutput, Ends, IsAccepted, IsClean, IsRunStatus, image_limit, joined};
+ghost use Rattle.dash_run.specs.Output.{output_status, output_stream, output_texts, HasLoaded, HasTried};
+ghost use Rattle.dash_run.specs.Theorem.{MadeRun, OfMachine, IsWholeRun, HasPrinted, IsOrdered, IsSequential, HasCause};
 
 use crate::answer::answer;
 use crate::command_line::read_words;
 use crate::lines;
-use crate::output::Output;
+use crate::output::{Output, Prepared};
+use crate::run::Run;
+use arbiter::Arbiter;
+use cluster_unit::Unit;
 use dash_base::{Failed, Host, LoadFault, OutOfMemory, Stream};
 use dash_event::Event;
+use dash_model::laws::{runs_are_coherent, runs_keep_releases};
+use round_run::Gate;
 use std::alloc::Global;
+use std::sync::Wait;
+use std::thread::Threads;
+use trace_merge::laws::runs_are_sequential;
 
 /// How a call ended.
 #[derive(Drop)]
@@ -21,75 +30,140 @@ pub struct Ended {
     pub status: u8,
     /// The log of the run, also where a print of its report failed; empty where no run was made.
     pub log: Vec<Event>,
+    /// The units that made it, one for each cluster.
+    pub units: Vec<Unit>,
+    /// After how many rounds it ended.
+    pub rounds: u64,
 }
 
 /// The top call: does what the words ask for, and prints the report or the line.
 ///
-/// The host may be asked for the image that the words name, and for nothing else. What follows from
-/// the clause `outcome` are laws of the module `laws`: each status has its cause, each cause its
-/// status, and the host gets no other calls than the load of the image and the prints.
-pub fn dash<H: Host>(alloc: Global, words: &[String], host: &mut H) -> Ended
-    requires { (q : Request) → Asks (map string_bytes words.now) q → IsTrue (H.may_load host.old q.name) }
+/// The host may be asked for the image that the words name, and for nothing else. Cluster c chooses by
+/// arbiter c. What follows from the clause `outcome` are the other clauses, and laws of the module
+/// `laws`: each status has its cause, each cause its status, and the host gets no other calls than the
+/// load of the image and the prints.
+pub fn dash<R: Threads + Wait + Sync, H: Host, G: Gate>(
+    rt: &R,
+    alloc: Global,
+    words: &[String],
+    host: &mut H,
+    gate: &G,
+    arbiters: Vec<Box<dyn Arbiter + Send>>,
+) -> Ended
+    requires names { (q : Request) → Asks (map string_bytes words.now) q → IsTrue (H.may_load host.old q.name) }
+    requires arbiters { vec_len arbiters ≡ 16 }
     ensures outcome { Ends (map string_bytes words.now) (H.files host.old)
         (record { old = H.load_faults host.old; new = H.load_faults host.new })
         (record { old = H.print_faults host.old; new = H.print_faults host.new })
         (record { old = H.printed host.old; new = H.printed host.new })
-        (record { old = H.calls host.old; new = H.calls host.new }) result.status result.log.items }
+        (record { old = H.calls host.old; new = H.calls host.new }) result.status
+        (record { log = result.log.items; units = map (λ u. record { core = u.core; turns = u.turns; steps = u.steps; ahead = u.ahead }) result.units.items; rounds = result.rounds }) }
 
-    // A run is one of the sequential machine, complete and within the budgets.
-    ensures sequential { IsRunStatus result.status → RunsSequentially (map string_bytes words.now) (H.files host.old) result.log.items }
+    // A run is one of the machine of caches, messages and write buffers: complete, and merged from the logs
+    // of its units, which had 256 turns in each round, of fewer than 2^56.
+    ensures machine { MadeRun result.status result.log.items → OfMachine (map string_bytes words.now) (H.files host.old)
+        (IsWholeRun (record { log = result.log.items; units = map (λ u. record { core = u.core; turns = u.turns; steps = u.steps; ahead = u.ahead }) result.units.items; rounds = result.rounds })) }
+
+    // Where no run was made, nothing is left of one.
+    ensures empty { result.log.items ≡ [] → (result.units.items ≡ []) × (result.rounds ≡ 0) }
+
+    // The report of a run, and nothing else, was printed; or a part of it, where a print failed.
+    ensures printed { MadeRun result.status result.log.items → OfMachine (map string_bytes words.now) (H.files host.old)
+        (HasPrinted result.log.items result.status (record { old = H.printed host.old; new = H.printed host.new })) }
+
+    // A run is coherent, and keeps the release rule.
+    ensures order { MadeRun result.status result.log.items → OfMachine (map string_bytes words.now) (H.files host.old) (IsOrdered result.log.items) }
+
+    // Where the image is properly labelled for the topology, the records of a run are a sequential run
+    // within the budgets.
+    ensures sequential { MadeRun result.status result.log.items → OfMachine (map string_bytes words.now) (H.files host.old) (IsSequential result.log.items) }
+
+    // Each status has its cause: those of a run are the status of the complete run.
+    ensures status { HasCause (map string_bytes words.now) (H.files host.old)
+        (record { old = H.load_faults host.old; new = H.load_faults host.new })
+        (record { old = H.print_faults host.old; new = H.print_faults host.new }) result.log.items result.status }
+
+    // Where no fault was counted, an accepted image and topology give a run, or there was no memory.
+    ensures completeness { (q : Request) (bytes : List ℕ) → IsClean (map string_bytes words.now) (H.files host.old)
+        (record { old = H.load_faults host.old; new = H.load_faults host.new })
+        (record { old = H.print_faults host.old; new = H.print_faults host.new }) q bytes
+        → length bytes ≤ image_limit → IsAccepted q bytes → IsRunStatus result.status ⊎ (result.status ≡ 6) }
 {
-    carry_out(alloc, words, host)
+    runs_are_coherent();
+    runs_keep_releases();
+    runs_are_sequential();
+    carry_out(rt, alloc, words, host, gate, arbiters)
 }
 
 /// Does what the words ask for, and prints its output.
-fn carry_out<H: Host>(alloc: Global, words: &[String], host: &mut H) -> Ended
-    requires { (q : Request) → Asks (map string_bytes words.now) q → IsTrue (H.may_load host.old q.name) }
+fn carry_out<R: Threads + Wait + Sync, H: Host, G: Gate>(
+    rt: &R,
+    alloc: Global,
+    words: &[String],
+    host: &mut H,
+    gate: &G,
+    arbiters: Vec<Box<dyn Arbiter + Send>>,
+) -> Ended
+    requires names { (q : Request) → Asks (map string_bytes words.now) q → IsTrue (H.may_load host.old q.name) }
+    requires arbiters { vec_len arbiters ≡ 16 }
     ensures outcome { Ends (map string_bytes words.now) (H.files host.old)
         (record { old = H.load_faults host.old; new = H.load_faults host.new })
         (record { old = H.print_faults host.old; new = H.print_faults host.new })
         (record { old = H.printed host.old; new = H.printed host.new })
-        (record { old = H.calls host.old; new = H.calls host.new }) result.status result.log.items }
+        (record { old = H.calls host.old; new = H.calls host.new }) result.status
+        (record { log = result.log.items; units = map (λ u. record { core = u.core; turns = u.turns; steps = u.steps; ahead = u.ahead }) result.units.items; rounds = result.rounds }) }
 {
-    match prepare(alloc, words, host) {
-        Ok(output) => match show(host, &output) {
-            Ok(()) => Ended {
-                status: output.status(),
-                log: output.into_log(alloc),
-            },
-            Err(Failed) => Ended {
-                status: 5,
-                log: output.into_log(alloc),
-            },
+    match prepare(rt, alloc, words, host, gate, arbiters) {
+        Ok(prepared) => match show(host, &prepared.output) {
+            Ok(()) => {
+                let status = prepared.output.status();
+                prepared.ended(status)
+            }
+            Err(Failed) => prepared.ended(5),
         },
-        Err(OutOfMemory) => Ended {
-            status: 6,
-            log: Vec::new(alloc),
-        },
+        Err(OutOfMemory) => Run::none(alloc).ended(6),
     }
 }
 
-/// Loads the image that the words name, and makes what is to be printed.
-fn prepare<H: Host>(alloc: Global, words: &[String], host: &mut H) -> Result<Output, OutOfMemory>
-    requires { (q : Request) → Asks (map string_bytes words.now) q → IsTrue (H.may_load host.old q.name) }
-    ensures is_output { IfOk result (λ output. IsOutput (map string_bytes words.now) (H.files host.old) (H.load_faults host.old) (H.load_faults host.new) (output_status output) (output_stream output) (output_texts output) (output_log output)) }
+/// Loads the image that the words name, runs it, and makes what is to be printed.
+fn prepare<R: Threads + Wait + Sync, H: Host, G: Gate>(
+    rt: &R,
+    alloc: Global,
+    words: &[String],
+    host: &mut H,
+    gate: &G,
+    arbiters: Vec<Box<dyn Arbiter + Send>>,
+) -> Result<Prepared, OutOfMemory>
+    requires names { (q : Request) → Asks (map string_bytes words.now) q → IsTrue (H.may_load host.old q.name) }
+    requires arbiters { vec_len arbiters ≡ 16 }
+    ensures is_output { IfOk result (λ a. IsOutput (map string_bytes words.now) (H.files host.old) (H.load_faults host.old) (H.load_faults host.new) (output_status a.output) (output_stream a.output) (output_texts a.output)
+        (record { log = a.run.log.items; units = map (λ u. record { core = u.core; turns = u.turns; steps = u.steps; ahead = u.ahead }) a.run.units.items; rounds = a.run.rounds })) }
     ensures memory { OnErr result (IsAsked (map string_bytes words.now)) }
     ensures printed { H.printed host.new ≡ H.printed host.old }
     ensures print_faults { H.print_faults host.new ≡ H.print_faults host.old }
     ensures calls { HasLoaded (map string_bytes words.now) (H.calls host.old) (H.calls host.new) }
 {
     let Some(command) = read_words(words) else {
-        return Ok(Output::Usage);
+        return Ok(Prepared {
+            output: Output::Usage,
+            run: Run::none(alloc),
+        });
     };
     match host.load(alloc, command.name, lines::IMAGE_LIMIT) {
-        Ok(bytes) => Ok(answer(alloc, &command, bytes)?),
-        Err(LoadFault::TooLarge { size }) => Ok(Output::Line {
-            status: 5,
-            text: lines::too_large(alloc, command.name, size)?,
+        Ok(bytes) => Ok(answer(rt, alloc, &command, bytes, gate, arbiters)?),
+        Err(LoadFault::TooLarge { size }) => Ok(Prepared {
+            output: Output::Line {
+                status: 5,
+                text: lines::too_large(alloc, command.name, size)?,
+            },
+            run: Run::none(alloc),
         }),
-        Err(LoadFault::Failed) => Ok(Output::Line {
-            status: 5,
-            text: lines::failed(alloc, command.name)?,
+        Err(LoadFault::Failed) => Ok(Prepared {
+            output: Output::Line {
+                status: 5,
+                text: lines::failed(alloc, command.name)?,
+            },
+            run: Run::none(alloc),
         }),
         Err(LoadFault::OutOfMemory) => Err(OutOfMemory),
     }

@@ -1,5 +1,5 @@
-use Rattle.dash_run.proofs.Runs.{one_report}
+use Rattle.dash_run.proofs.Reports.{one_report}
 use Rattle.dash_run.proofs.laws.one_report.Goals as goal
 
 pub returns : goal.returns
-returns c = λ q bytes status status' texts texts' log log' a b. one_report q bytes status status' texts texts' log log' a b
+returns c = one_report c.events_fix_effects.ensures
