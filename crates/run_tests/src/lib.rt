@@ -1,5 +1,5 @@
-//! Tests of logs, of reports, of what a cluster opens with and of its atomic operations. A crate with
-//! tests is proved again with them, so they stand here, above all that they test.
+//! Tests of logs, of reports, of machines in rounds, of what a cluster opens with and of its atomic
+//! operations. A crate with tests is proved again with them, so they stand here, above all that they test.
 #![tactic(auto)]
 
 #[cfg(test)]
@@ -10,5 +10,7 @@ mod logs;
 mod openings;
 #[cfg(test)]
 mod reports;
+#[cfg(test)]
+mod rounds;
 #[cfg(test)]
 mod shown;

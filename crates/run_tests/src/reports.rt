@@ -25,7 +25,7 @@ static HEADERS: [u8; 84] = [
 ];
 
 /// Puts "ok" on the console and exits with 0.
-static OK: [u32; 8] = [
+pub static OK: [u32; 8] = [
     0x06f0_0513,
     0x0010_0893,
     0x0000_0073,
@@ -59,7 +59,7 @@ accesses 0
 ";
 
 /// `addi a2,zero,1` and then a jump to itself, which spends the budget.
-static SPIN: [u32; 2] = [0x0010_0613, 0x0000_006f];
+pub static SPIN: [u32; 2] = [0x0010_0613, 0x0000_006f];
 
 static SPENT: &str = "console 0\n
 hart 0 budget pc 00010004 retired 1000000
@@ -107,7 +107,7 @@ accesses 6
 ";
 
 /// The same lock word is asked for and never given back.
-static KEPT: [u32; 4] = [0x0010_0637, 0x0cb6_26af, 0x05d0_0893, 0x0000_0073];
+pub static KEPT: [u32; 4] = [0x0010_0637, 0x0cb6_26af, 0x05d0_0893, 0x0000_0073];
 
 static KEPT_REPORT: &str = "console 0\n
 hart 0 exit 00000000 pc 0001000c retired 4
@@ -126,7 +126,7 @@ accesses 1
 ";
 
 /// A file of these words.
-fn file(alloc: Global, words: &[u32]) -> Result<Vec<u8>, AllocError> {
+pub fn file(alloc: Global, words: &[u32]) -> Result<Vec<u8>, AllocError> {
     let mut bytes = Vec::from_slice(alloc, &HEADERS)?;
     for word in words {
         bytes.extend_from_slice(&word.to_le_bytes())?;
