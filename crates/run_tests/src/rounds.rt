@@ -131,9 +131,9 @@ fn each_run_ends_for_its_cause(rt: HostRuntime) -> Result<(), Fail> {
         for (clusters, harts, retire) in [(1, 2, false), (2, 1, false), (2, 1, true)] {
             let finished = run(&rt, alloc, image, clusters, harts, retire, &OpenGate)?;
             assert_eq!(rt; finished.cause, cause, "{clusters} clusters");
-            let mut waits = 0;
+            let mut waits = 0_usize;
             for wait in &finished.waits {
-                waits += usize::from(*wait);
+                waits = waits.saturating_add(usize::from(*wait));
             }
             assert_eq!(rt;
                 (finished.waits.len(), waits),
