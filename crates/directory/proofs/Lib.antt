@@ -5,3 +5,4 @@ pub mod Invalidated
 pub mod Serving
 pub mod Lawful
 pub mod LawsOffered
+pub mod OpeningWords

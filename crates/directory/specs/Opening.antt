@@ -1,5 +1,5 @@
 -- A home at the start of a run.
-use Rattle.std.specs.Prelude.{◌≡◌, ℕ, ◌+◌, [], ◌∷◌, Some, None, if◌then◌else◌}
+use Rattle.std.specs.Prelude.{◌≡◌, ℕ, ◌+◌, ◌*◌, ◌<◌, List, [], ◌∷◌, length, slice_index, Some, None, if◌then◌else◌}
 use Rattle.std.specs.FinMap.{get}
 use Rattle.dash_base.specs.declared.line.Line.{Line}
 use Rattle.dash_base.specs.declared.topology.Topology.{Topology}
@@ -13,6 +13,10 @@ use Rattle.directory.specs.View.{HomeView, is_home}
 unfoldable pub line_from : ImageView → ℕ → Line
 line_from image a =
     record { words = opening_word image a ∷ opening_word image (a + 4) ∷ opening_word image (a + 8) ∷ opening_word image (a + 12) ∷ []; version = 0 }
+
+-- the words of memory, from its lowest address on, are those of the image
+abbrev pub AreOpeningWords : ImageView → Topology → List ℕ → Type 0
+AreOpeningWords image t words = (i : ℕ) → i < length words → slice_index words i ≡ opening_word image (t.base + 4 * i)
 
 -- a line that no cluster has a copy of, with the bytes of the image
 abbrev pub opening_line : ImageView → Topology → ℕ → HomeLine

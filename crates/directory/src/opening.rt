@@ -2,40 +2,47 @@
 ghost use Rattle.std.specs.Prelude.{◌≡◌, ◌<◌, ◌≤◌, ◌+◌, ◌-◌, ◌*◌, IfOk, map, length};
 ghost use Rattle.std.specs.List.{range_with_len};
 ghost use Rattle.dash_base.specs.Places.{line_count};
-ghost use Rattle.directory.specs.Opening.{line_from, opening_line};
+ghost use Rattle.directory.specs.Opening.{opening_line, AreOpeningWords};
 ghost use Rattle.directory.specs.Kept.{AreKept};
 
 use crate::entry::EntryState;
 use crate::home_line::HomeLine;
-use dash_base::{ClusterId, Line, LineId, OutOfMemory, Topology};
-use elf_load::Image;
+use dash_base::{ClusterId, Line, OutOfMemory, Topology};
+use elf_load::{Image, MemoryMap};
 use std::alloc::Global;
 
-/// The four words from an address on, as a line's content.
-#[tactic(auto, unfolding(crate::specs::Opening::line_from))]
-fn line_from(image: &Image, address: u32) -> Line
-    requires { address + 16 ≤ 4294967295 }
-    ensures { result ≡ line_from image.now address }
+/// The words of memory, which is the image.
+fn opening_words(alloc: Global, image: &Image, topology: &Topology) -> Result<Vec<u32>, OutOfMemory>
+    ensures whole { IfOk result (λ words. 4 * length words.items ≡ topology.now.memory) }
+    ensures each { IfOk result (λ words. AreOpeningWords image.now topology.now words.items) }
 {
-    Line {
-        words: [
-            image.opening_word(address),
-            image.opening_word(address + 4),
-            image.opening_word(address + 8),
-            image.opening_word(address + 12),
-        ],
-        version: 0,
-    }
+    let map = MemoryMap {
+        base: topology.base,
+        size: topology.memory,
+    };
+    Ok(image.opening_words(alloc, map)?)
 }
 
-/// A line as it is at the start.
-fn opening_line(image: &Image, topology: &Topology, line: u32) -> HomeLine
-    requires { line < line_count topology.now }
+/// A line as it is at the start, by the words of memory.
+#[tactic(auto, unfolding(crate::specs::Opening::line_from))]
+fn opening_line(image: &Image, topology: &Topology, words: &[u32], line: u32) -> HomeLine
+    requires line { line < line_count topology.now }
+    requires whole { 4 * length words.now ≡ topology.now.memory }
+    requires each { AreOpeningWords image.now topology.now words.now }
     ensures { result ≡ opening_line image.now topology.now line }
 {
+    let first = 4 * line as usize;
     HomeLine {
         entry: EntryState::Uncached,
-        content: line_from(image, topology.address_of(LineId(line))),
+        content: Line {
+            words: [
+                words[first],
+                words[first + 1],
+                words[first + 2],
+                words[first + 3],
+            ],
+            version: 0,
+        },
     }
 }
 
@@ -54,10 +61,11 @@ pub fn opening_lines(
         AreKept cluster.0 topology.now.clusters (line_count topology.now) kept.items) }
 {
     let count = (topology.line_count() - cluster.0).div_ceil(topology.clusters);
+    let words = opening_words(alloc, image, topology)?;
     let mut kept = Vec::with_capacity(alloc, count as usize)?;
     for place in 0..count {
         let line = place * topology.clusters + cluster.0;
-        kept.push(opening_line(image, topology, line))?;
+        kept.push(opening_line(image, topology, &words, line))?;
     }
     Ok(kept)
 }

@@ -7,8 +7,8 @@ use Rattle.directory.specs.Opening.{opening_line}
 use Rattle.directory.proofs.AtStart.{place_below, kept_lines}
 use Rattle.directory.proofs.opening.opening_lines.Goals as goal
 
-pub opening_line-requires : goal.opening_line-requires
-opening_line-requires c =
+pub opening_line-requires-clause-line : goal.opening_line-requires-clause-line
+opening_line-requires-clause-line c =
     let lines = c.line_count.ensures in
     let under = place_below (c.line_count.result - c.args.cluster.0) c.args.topology.now.clusters _ c.loop-place.place (omega (arith, c.requires)) c.div_ceil-count.ensures c.loop-place-test.true in
     omega (arith, under, lines)
