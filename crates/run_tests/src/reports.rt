@@ -145,7 +145,7 @@ pub fn file(alloc: Global, words: &[u32]) -> Result<Vec<u8>, AllocError> {
 fn host(alloc: Global, bytes: Vec<u8>, failing: &[u32]) -> Result<MemoryHost, Fail> {
     let mut files = BTreeMap::new(alloc);
     files.insert(String::from_str(alloc, "a.elf")?, bytes)?;
-    Ok(MemoryHost::new(alloc, files, 1000, Vec::from_slice(alloc, failing)?)?)
+    Ok(MemoryHost::new(alloc, files, 2000, Vec::from_slice(alloc, failing)?)?)
 }
 
 fn words(alloc: Global, texts: &[&str]) -> Result<Vec<String>, AllocError> {
