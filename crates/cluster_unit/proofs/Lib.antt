@@ -21,3 +21,4 @@ pub mod FirstOnes
 pub mod SettleTurns
 pub mod SerialOnes
 pub mod NoneWaits
+pub mod LawsOffered

@@ -1,5 +1,5 @@
 use Rattle.std.proofs.Common.{◌≡◌, ℕ, ◌<◌, ◌≤◌, length, Some, slice_index_or, refl, ap, ◌∙◌, sym, subst, arith}
-use Rattle.cluster_unit.proofs.FreshUnits.{taken_some, taken_at, taken_more, each_more}
+use Rattle.cluster_unit.proofs.LawsOffered.{taken_some, taken_at, taken_more, each_more}
 use Rattle.round_run.proofs.UnitsBelow.{length_more}
 use Rattle.round_run.proofs.machine.Machine.new.Goals as goal
 

@@ -1,0 +1,2 @@
+-- The lemmas that the crates above use. Nothing else of these proofs is imported across crates.
+pub use Rattle.cluster_unit.proofs.FreshUnits.{taken_some, taken_at, taken_more, each_more}
