@@ -1,5 +1,5 @@
 -- Clusters that are named exist, and no more acknowledgements are announced than there are clusters.
-use Rattle.std.proofs.Common.{◌≡◌, ◌⊎◌, ℕ, suc, ◌+◌, ◌≤◌, ◌<◌, ◌==◌, ◌&&◌, Bool, true, false, not, cond, nat_lt, Some, List, [], ◌∷◌, ◌++◌, length, refl, inl, inr, arith}
+use Rattle.std.proofs.Common.{◌≡◌, ◌⊎◌, ℕ, suc, ◌+◌, ◌≤◌, ◌<◌, ◌==◌, ◌&&◌, Bool, true, false, not, cond, nat_lt, Some, List, [], ◌∷◌, ◌++◌, length, refl, sym, subst, inl, inr, arith}
 use Rattle.std.proofs.lemmas.Bool.Decides.{nat_tests}
 use Rattle.dash_base.specs.declared.line.Line.{Line}
 use Rattle.dash_base.specs.declared.id.LineId.{LineId}
@@ -8,7 +8,7 @@ use Rattle.dash_msg.specs.declared.classes.Class.{Class}
 use Rattle.dash_msg.specs.declared.msg.Msg.{Msg}
 use Rattle.dash_msg.specs.declared.msg.Msg.TheVariants.{Read, ReadEx, FwdRead, FwdReadEx, Inval, WriteBack, SharingBack, Transfer, Data, DataEx, Ack, TransferAck, Nak}
 use Rattle.dash_msg.specs.declared.parcel.Sent.{Sent}
-use Rattle.dash_model.specs.Maps.{weigh, without, with_member}
+use Rattle.dash_model.specs.Maps.{weigh, without}
 use Rattle.dash_model.specs.Net.{Packet, packet, parcel, head, tail, to}
 use Rattle.dash_model.specs.Cell.{Copy, Held, Asked, Poisoned, Came, Refused, Slot, Reads, Owns, Acks, NoAcks, Counting, Expects, Entry, Uncached, SharedBy, Dirty, Cell, Home}
 use Rattle.dash_model.specs.LineEffect.{LineEffect, still}
@@ -21,26 +21,8 @@ use Rattle.dash_model.proofs.LineState.{State, Where, Acts, Takes, apply, after}
 use Rattle.dash_model.proofs.Weigh.{weigh-only}
 use Rattle.dash_model.proofs.OnNet.{AllOf, AllSent, all-head, all-tail, all-send}
 use Rattle.dash_model.proofs.Rows.{brings_counts}
-
--- a rising list of numbers from lo on, below n
-abbrev pub Strict : ℕ → ℕ → List ℕ → Type 0
-Strict lo n [] = lo ≤ n
-Strict lo n (c ∷ cs) = (lo ≤ c) × (c < n) × Strict (suc c) n cs
-
-strict_with_cases : (f x lo n : ℕ) (cs : List ℕ) (i j : Bool) → (x == f) ≡ i → nat_lt f x ≡ j → lo ≤ f → f < n → Strict lo n (x ∷ cs)
-    → (suc x ≤ f → Strict (suc x) n (with_member f cs)) → Strict lo n (cond i (x ∷ cs) (cond j (f ∷ x ∷ cs) (x ∷ with_member f cs)))
-strict_with_cases f x lo n cs true j e g l b s ih = s
-strict_with_cases f x lo n cs false true e g l b s ih = (l, b, (grind (arith, nat_tests), s.1, s.2))
-strict_with_cases f x lo n cs false false e g l b s ih = (s.0, s.1, ih (grind (arith, nat_tests)))
-
-pub strict-with : (f lo n : ℕ) (cs : List ℕ) → lo ≤ f → f < n → Strict lo n cs → Strict lo n (with_member f cs)
-unfolding with_member
-strict-with f lo n [] l b s = (l, b, omega arith)
-strict-with f lo n (x ∷ cs) l b s = strict_with_cases f x lo n cs (x == f) (nat_lt f x) refl refl l b s (λ m. strict-with f (suc x) n cs m b s.2)
-
-pub strict-length : (lo n : ℕ) (cs : List ℕ) → Strict lo n cs → length cs + lo ≤ n
-strict-length lo n [] s = omega arith
-strict-length lo n (c ∷ cs) s = let ih = strict-length (suc c) n cs s.2 in let a = s.0 in omega arith
+use Rattle.dash_model.proofs.RowsAlong.{home_act}
+use Rattle.dash_model.proofs.EntryBounds.{strict-length, EntryBounded, SharesIn, take_entry}
 
 without_tail : (c : ℕ) (cs : List ℕ) (i : Bool) (m : ℕ) → length cs ≤ m → length (cond i (c ∷ cs) cs) ≤ suc m
 without_tail c cs true m h = omega arith
@@ -67,10 +49,6 @@ PacketNamed n p = (p.src < n) × Named n p.msg
 abbrev pub SentNamed : ℕ → List Sent → Type 0
 SentNamed n = AllSent (λ x. Named n x.msg)
 
-abbrev pub EntryBounded : ℕ → Entry → Type 0
-EntryBounded n (SharedBy cs) = Strict 0 n cs
-EntryBounded n e = Unit {0}
-
 abbrev pub AcksBounded : ℕ → Acks → Type 0
 AcksBounded n (Expects m g o) = m ≤ n
 AcksBounded n a = Unit {0}
@@ -82,7 +60,6 @@ pub record Bounded (n : ℕ) (s : State) : Type 0 where
 
 pub record DidBounded (n : ℕ) (d : LineEffect) : Type 0 where
   pub sent : SentNamed n d.sent
-  pub entry : EntryBounded n d.home.entry
   pub acks : AcksBounded n d.cell.acks
 
 -- lists of messages
@@ -99,46 +76,46 @@ sent-invals n l r [] m c b h = (h, tt)
 sent-invals n l r (x ∷ xs) m c b h = (b, sent-invals n l r xs m c b h)
 
 -- rows
-read_bound : (n : ℕ) (l : LineId) (f : ℕ) (e : Entry) (a : Cell) (b : Home) → f < n → EntryBounded n e → EntryBounded n b.entry → AcksBounded n a.acks
+read_bound : (n : ℕ) (l : LineId) (f : ℕ) (e : Entry) (a : Cell) (b : Home) → f < n → AcksBounded n a.acks
     → DidBounded n (read_row l f e a b)
-read_bound n l f Uncached a b h e g k = record { sent = (tt, tt); entry = (omega arith, h, h); acks = k }
-read_bound n l f (SharedBy cs) a b h e g k = record { sent = (tt, tt); entry = strict-with f 0 n cs (omega arith) h e; acks = k }
-read_bound n l f (Dirty o) a b h e g k = record { sent = (h, tt); entry = g; acks = k }
+read_bound n l f Uncached a b h k = record { sent = (tt, tt); acks = k }
+read_bound n l f (SharedBy cs) a b h k = record { sent = (tt, tt); acks = k }
+read_bound n l f (Dirty o) a b h k = record { sent = (h, tt); acks = k }
 
-own_bound : (n : ℕ) (l : LineId) (f : ℕ) (e : Entry) (a : Cell) (b : Home) → f < n → EntryBounded n e → EntryBounded n b.entry → AcksBounded n a.acks
+own_bound : (n : ℕ) (l : LineId) (f : ℕ) (e : Entry) (a : Cell) (b : Home) → f < n → EntryBounded n e → AcksBounded n a.acks
     → DidBounded n (own_row l f e a b)
-own_bound n l f Uncached a b h e g k = record { sent = (omega arith, tt); entry = tt; acks = k }
-own_bound n l f (SharedBy cs) a b h e g k =
+own_bound n l f Uncached a b h e k = record { sent = (omega arith, tt); acks = k }
+own_bound n l f (SharedBy cs) a b h e k =
     let all = strict-length 0 n cs e in
     let some = without-length f cs in
     let fits : length (without f cs) ≤ n = omega arith in
-    record { sent = sent-invals n l f (without f cs) (DataEx l b.mem (length (without f cs))) f h fits; entry = tt; acks = k }
-own_bound n l f (Dirty o) a b h e g k = record { sent = (h, tt); entry = g; acks = k }
+    record { sent = sent-invals n l f (without f cs) (DataEx l b.mem (length (without f cs))) f h fits; acks = k }
+own_bound n l f (Dirty o) a b h e k = record { sent = (h, tt); acks = k }
 
-give_read_bound : (n : ℕ) (l : LineId) (h r : ℕ) (c : Copy) (k : Acks) (a : Cell) (b : Home) → r < n → EntryBounded n b.entry → AcksBounded n a.acks
+give_read_bound : (n : ℕ) (l : LineId) (h r : ℕ) (c : Copy) (k : Acks) (a : Cell) (b : Home) → r < n → AcksBounded n a.acks
     → DidBounded n (give_read l h r c k a b)
-give_read_bound n l h r (Held hs (Some o) d) NoAcks a b f e g = record { sent = (tt, (f, tt)); entry = e; acks = g }
-give_read_bound n l h r _ _ a b f e g = record { sent = (tt, tt); entry = e; acks = g }
+give_read_bound n l h r (Held hs (Some o) d) NoAcks a b f g = record { sent = (tt, (f, tt)); acks = g }
+give_read_bound n l h r _ _ a b f g = record { sent = (tt, tt); acks = g }
 
-give_own_bound : (n : ℕ) (l : LineId) (h r : ℕ) (c : Copy) (k : Acks) (a : Cell) (b : Home) → r < n → EntryBounded n b.entry → AcksBounded n a.acks
+give_own_bound : (n : ℕ) (l : LineId) (h r : ℕ) (c : Copy) (k : Acks) (a : Cell) (b : Home) → r < n → AcksBounded n a.acks
     → DidBounded n (give_own l h r c k a b)
-give_own_bound n l h r (Held hs (Some o) d) NoAcks a b f e g = record { sent = (omega arith, (f, tt)); entry = e; acks = g }
-give_own_bound n l h r _ _ a b f e g = record { sent = (tt, tt); entry = e; acks = g }
+give_own_bound n l h r (Held hs (Some o) d) NoAcks a b f g = record { sent = (omega arith, (f, tt)); acks = g }
+give_own_bound n l h r _ _ a b f g = record { sent = (tt, tt); acks = g }
 
-write_back_bound : (n : ℕ) (d : Line) (i : Bool) (a : Cell) (b : Home) → EntryBounded n b.entry → AcksBounded n a.acks
+write_back_bound : (n : ℕ) (d : Line) (i : Bool) (a : Cell) (b : Home) → AcksBounded n a.acks
     → DidBounded n (write_back_row d i a b)
-write_back_bound n d true a b e g = record { sent = tt; entry = tt; acks = g }
-write_back_bound n d false a b e g = record { sent = tt; entry = e; acks = g }
+write_back_bound n d true a b g = record { sent = tt; acks = g }
+write_back_bound n d false a b g = record { sent = tt; acks = g }
 
-sharing_back_bound : (n f : ℕ) (d : Line) (r : ℕ) (i : Bool) (a : Cell) (b : Home) → f < n → r < n → EntryBounded n b.entry → AcksBounded n a.acks
+sharing_back_bound : (n f : ℕ) (d : Line) (r : ℕ) (i : Bool) (a : Cell) (b : Home) → AcksBounded n a.acks
     → DidBounded n (sharing_back_row f d r i a b)
-sharing_back_bound n f d r true a b h k e g = record { sent = tt; entry = strict-with f 0 n (r ∷ []) (omega arith) h (omega arith, k, k); acks = g }
-sharing_back_bound n f d r false a b h k e g = record { sent = tt; entry = e; acks = g }
+sharing_back_bound n f d r true a b g = record { sent = tt; acks = g }
+sharing_back_bound n f d r false a b g = record { sent = tt; acks = g }
 
-transfer_bound : (n : ℕ) (l : LineId) (r : ℕ) (i : Bool) (a : Cell) (b : Home) → EntryBounded n b.entry → AcksBounded n a.acks
+transfer_bound : (n : ℕ) (l : LineId) (r : ℕ) (i : Bool) (a : Cell) (b : Home) → AcksBounded n a.acks
     → DidBounded n (transfer_row l r i a b)
-transfer_bound n l r true a b e g = record { sent = (tt, tt); entry = tt; acks = g }
-transfer_bound n l r false a b e g = record { sent = tt; entry = e; acks = g }
+transfer_bound n l r true a b g = record { sent = (tt, tt); acks = g }
+transfer_bound n l r false a b g = record { sent = tt; acks = g }
 
 cond_bound : (n : ℕ) (i : Bool) (d e : LineEffect) → DidBounded n d → DidBounded n e → DidBounded n (cond i d e)
 cond_bound n true d e h k = h
@@ -179,72 +156,76 @@ owe_bound n t (Expects m g o) h = h
 take_bound : (n k h c f : ℕ) (m : Msg) (a : Cell) (b : Home) → f < n → Named n m → EntryBounded n b.entry → AcksBounded n a.acks
     → DidBounded n (take_row k h c f m a b)
 take_bound n k h c f (Read l) a b s i e g =
-    cond_bound n (c == h) (read_row l f b.entry a b) (still a b) (read_bound n l f b.entry a b s e e g) (record { sent = tt; entry = e; acks = g })
+    cond_bound n (c == h) (read_row l f b.entry a b) (still a b) (read_bound n l f b.entry a b s g) (record { sent = tt; acks = g })
 take_bound n k h c f (ReadEx l) a b s i e g =
-    cond_bound n (c == h) (own_row l f b.entry a b) (still a b) (own_bound n l f b.entry a b s e e g) (record { sent = tt; entry = e; acks = g })
-take_bound n k h c f (FwdRead l r) a b s i e g = give_read_bound n l h r.0 a.copy a.acks a b i e g
-take_bound n k h c f (FwdReadEx l r) a b s i e g = give_own_bound n l h r.0 a.copy a.acks a b i e g
-take_bound n k h c f (Inval l r) a b s i e g = record { sent = (tt, tt); entry = e; acks = g }
-take_bound n k h c f (WriteBack l d) a b s i e g = write_back_bound n d ((c == h) && is_dirty_of f b.entry) a b e g
-take_bound n k h c f (SharingBack l d r) a b s i e g = sharing_back_bound n f d r.0 ((c == h) && is_dirty_of f b.entry) a b s i e g
-take_bound n k h c f (Transfer l r) a b s i e g = transfer_bound n l r.0 ((c == h) && is_dirty_of f b.entry) a b e g
-take_bound n k h c f (Data l d) a b s i e g = record { sent = tt; entry = e; acks = g }
-take_bound n k h c f (DataEx l d m) a b s i e g = record { sent = tt; entry = e; acks = expecting_for_bound n m a.slot a.acks i g }
-take_bound n k h c f (Ack l) a b s i e g = record { sent = tt; entry = e; acks = counted_bound n a.acks g }
-take_bound n k h c f (TransferAck l) a b s i e g = record { sent = tt; entry = e; acks = counted_bound n a.acks g }
-take_bound n k h c f (Nak l) a b s i e g = record { sent = tt; entry = e; acks = nak_bound n k a.slot a.acks g }
-take_bound n k h c f _ a b s i e g = record { sent = tt; entry = e; acks = g }
+    cond_bound n (c == h) (own_row l f b.entry a b) (still a b) (own_bound n l f b.entry a b s e g) (record { sent = tt; acks = g })
+take_bound n k h c f (FwdRead l r) a b s i e g = give_read_bound n l h r.0 a.copy a.acks a b i g
+take_bound n k h c f (FwdReadEx l r) a b s i e g = give_own_bound n l h r.0 a.copy a.acks a b i g
+take_bound n k h c f (Inval l r) a b s i e g = record { sent = (tt, tt); acks = g }
+take_bound n k h c f (WriteBack l d) a b s i e g = write_back_bound n d ((c == h) && is_dirty_of f b.entry) a b g
+take_bound n k h c f (SharingBack l d r) a b s i e g = sharing_back_bound n f d r.0 ((c == h) && is_dirty_of f b.entry) a b g
+take_bound n k h c f (Transfer l r) a b s i e g = transfer_bound n l r.0 ((c == h) && is_dirty_of f b.entry) a b g
+take_bound n k h c f (Data l d) a b s i e g = record { sent = tt; acks = g }
+take_bound n k h c f (DataEx l d m) a b s i e g = record { sent = tt; acks = expecting_for_bound n m a.slot a.acks i g }
+take_bound n k h c f (Ack l) a b s i e g = record { sent = tt; acks = counted_bound n a.acks g }
+take_bound n k h c f (TransferAck l) a b s i e g = record { sent = tt; acks = counted_bound n a.acks g }
+take_bound n k h c f (Nak l) a b s i e g = record { sent = tt; acks = nak_bound n k a.slot a.acks g }
+take_bound n k h c f _ a b s i e g = record { sent = tt; acks = g }
 
-again_bound : (n : ℕ) (l : LineId) (h : ℕ) (s : Slot) (a : Cell) (b : Home) → EntryBounded n b.entry → AcksBounded n a.acks
+again_bound : (n : ℕ) (l : LineId) (h : ℕ) (s : Slot) (a : Cell) (b : Home) → AcksBounded n a.acks
     → DidBounded n (again_row l h s a b)
-again_bound n l h (Reads i t Refused) a b e g = record { sent = (tt, tt); entry = e; acks = g }
-again_bound n l h (Owns i t Refused) a b e g = record { sent = (tt, tt); entry = e; acks = g }
-again_bound n l h _ a b e g = record { sent = tt; entry = e; acks = g }
+again_bound n l h (Reads i t Refused) a b g = record { sent = (tt, tt); acks = g }
+again_bound n l h (Owns i t Refused) a b g = record { sent = (tt, tt); acks = g }
+again_bound n l h _ a b g = record { sent = tt; acks = g }
 
-install_bound : (n : ℕ) (s : Slot) (a : Cell) (b : Home) → EntryBounded n b.entry → AcksBounded n a.acks → DidBounded n (install_row s a b)
-install_bound n (Reads i t (Came d)) a b e g = record { sent = tt; entry = e; acks = g }
-install_bound n (Owns i t (Came d)) a b e g = record { sent = tt; entry = e; acks = g }
-install_bound n _ a b e g = record { sent = tt; entry = e; acks = g }
+install_bound : (n : ℕ) (s : Slot) (a : Cell) (b : Home) → AcksBounded n a.acks → DidBounded n (install_row s a b)
+install_bound n (Reads i t (Came d)) a b g = record { sent = tt; acks = g }
+install_bound n (Owns i t (Came d)) a b g = record { sent = tt; acks = g }
+install_bound n _ a b g = record { sent = tt; acks = g }
 
-evict_bound : (n : ℕ) (l : LineId) (h : ℕ) (c : Copy) (a : Cell) (b : Home) → EntryBounded n b.entry → AcksBounded n a.acks
+evict_bound : (n : ℕ) (l : LineId) (h : ℕ) (c : Copy) (a : Cell) (b : Home) → AcksBounded n a.acks
     → DidBounded n (evict_row l h c a b)
-evict_bound n l h (Held hs (Some o) d) a b e g = record { sent = (tt, tt); entry = e; acks = g }
-evict_bound n l h _ a b e g = record { sent = tt; entry = e; acks = g }
+evict_bound n l h (Held hs (Some o) d) a b g = record { sent = (tt, tt); acks = g }
+evict_bound n l h _ a b g = record { sent = tt; acks = g }
 
-act_bound : (n : ℕ) (l : LineId) (h : ℕ) (m : Act) (a : Cell) (b : Home) → EntryBounded n b.entry → AcksBounded n a.acks
+act_bound : (n : ℕ) (l : LineId) (h : ℕ) (m : Act) (a : Cell) (b : Home) → AcksBounded n a.acks
     → DidBounded n (act_row l h m a b)
-act_bound n l h (AskRead i t) a b e g = record { sent = (tt, tt); entry = e; acks = g }
-act_bound n l h (AskOwn i t) a b e g = record { sent = (tt, tt); entry = e; acks = tt }
-act_bound n l h Again a b e g = again_bound n l h a.slot a b e g
-act_bound n l h Install a b e g = install_bound n a.slot a b e g
-act_bound n l h (Commit t d) a b e g = record { sent = tt; entry = e; acks = owe_bound n t a.acks g }
-act_bound n l h (Evict t) a b e g = evict_bound n l h a.copy a b e g
-act_bound n l h (Drop t) a b e g = record { sent = tt; entry = e; acks = g }
-act_bound n l h (BusRead t) a b e g = record { sent = tt; entry = e; acks = g }
-act_bound n l h (BusOwn t) a b e g = record { sent = tt; entry = e; acks = g }
+act_bound n l h (AskRead i t) a b g = record { sent = (tt, tt); acks = g }
+act_bound n l h (AskOwn i t) a b g = record { sent = (tt, tt); acks = tt }
+act_bound n l h Again a b g = again_bound n l h a.slot a b g
+act_bound n l h Install a b g = install_bound n a.slot a b g
+act_bound n l h (Commit t d) a b g = record { sent = tt; acks = owe_bound n t a.acks g }
+act_bound n l h (Evict t) a b g = evict_bound n l h a.copy a b g
+act_bound n l h (Drop t) a b g = record { sent = tt; acks = g }
+act_bound n l h (BusRead t) a b g = record { sent = tt; acks = g }
+act_bound n l h (BusOwn t) a b g = record { sent = tt; acks = g }
 
 -- steps
 acks_if : (n : ℕ) (a b : Cell) (i : Bool) → AcksBounded n a.acks → AcksBounded n b.acks → AcksBounded n (cond i a b).acks
 acks_if n a b true h k = h
 acks_if n a b false h k = k
 
-apply_bound : (n i c : ℕ) (d : LineEffect) (net : List Packet) (s : State) → c < n → DidBounded n d → AllOf (PacketNamed n) net → Bounded n s
+apply_bound : (n i c : ℕ) (d : LineEffect) (net : List Packet) (s : State) → c < n → DidBounded n d → EntryBounded n d.home.entry → AllOf (PacketNamed n) net → Bounded n s
     → Bounded n (apply i c d net s)
-apply_bound n i c d net s l h k b = record {
+apply_bound n i c d net s l h e k b = record {
   net = all-send (PacketNamed n) i c net d.sent k (named-sent n i c d.sent l h.sent);
-  entry = h.entry;
+  entry = e;
   acks = λ x. acks_if n d.cell (s.cells x) (x == c) h.acks (b.acks x);
 }
+
+named_shares : (n : ℕ) (m : Msg) → Named n m → SharesIn n m
+named_shares n (SharingBack l d r) i = i
+named_shares n _ i = tt
 
 pub take_bounded : (n : ℕ) (w : Where) (s : State) (i c f u : ℕ) (m : Msg) → c < n → head f c (class_of m) s.net ≡ Some (parcel f c m u) → Bounded n s
     → Bounded n (after w s (Takes i c f m))
 take_bounded n w s i c f u m l first b =
     let q = named-head n f c (class_of m) (parcel f c m u) s.net b.net first in
-    apply_bound n i c (take_row w.k w.home c f m (s.cells c) s.home) (tail f c (class_of m) s.net) s l (take_bound n w.k w.home c f m (s.cells c) s.home q.0 q.1 b.entry (b.acks c)) (all-tail (PacketNamed n) f c (class_of m) s.net b.net) b
+    apply_bound n i c (take_row w.k w.home c f m (s.cells c) s.home) (tail f c (class_of m) s.net) s l (take_bound n w.k w.home c f m (s.cells c) s.home q.0 q.1 b.entry (b.acks c)) (take_entry n w.k w.home c f m (s.cells c) s.home q.0 (named_shares n m q.1) b.entry) (all-tail (PacketNamed n) f c (class_of m) s.net b.net) b
 
 pub act_bounded : (n : ℕ) (w : Where) (s : State) (i c : ℕ) (a : Act) → c < n → Bounded n s → Bounded n (after w s (Acts i c a))
 act_bounded n w s i c a l b =
-    apply_bound n i c (act_row w.line w.home a (s.cells c) s.home) s.net s l (act_bound n w.line w.home a (s.cells c) s.home b.entry (b.acks c)) b.net b
+    apply_bound n i c (act_row w.line w.home a (s.cells c) s.home) s.net s l (act_bound n w.line w.home a (s.cells c) s.home (b.acks c)) (subst (λ (x : Home). EntryBounded n x.entry) (sym (home_act w.line w.home a (s.cells c) s.home)) b.entry) b.net b
 
 -- what is announced to a cluster, by one DataEx at most
 one_count : (n x a b : ℕ) (m : Msg) → Named n m

@@ -9,6 +9,7 @@ pub mod Contents
 pub mod Rows
 pub mod LineSteps
 pub mod OnNet
+pub mod EntryBounds
 pub mod Bounds
 pub mod Everywhere
 pub mod Along
@@ -72,6 +73,7 @@ pub mod LockRange
 pub mod InRange
 pub mod Totals
 pub mod Weights
+pub mod Lowers
 pub mod Falls
 pub mod HartSteps
 pub mod LineCases

@@ -119,10 +119,14 @@ oldest_inside : (w : Config) (l h : ℕ) (log : List Event) (ss : List Stored) �
 oldest_inside w l h log [] k e = absurd e
 oldest_inside w l h log (s ∷ ss) k e = subst (λ z. z < lines w) (ap (λ (y : Stored). line_at w y.word.0) k.0.entry ∙ e) (inside_line w k.0.access.word.0 k.0.writes.inside)
 
-cause_inside : (w : Config) (c n h l : ℕ) (own : Bool) (p : Part) (log : List Event) → AsksFor w c n h l p own → IsListed w log h (p.harts h) → l < lines w
-cause_inside w c n h l false p log (FrontReads i j k) s = loads_inside w l (p.harts h) j.need j.loads (proper w.image w.top (p.harts h).core j.need j.needs)
-cause_inside w c n h l true p log (FrontOwns i j k r) s = writes_inside w l (p.harts h) j.need j.writes (proper w.image w.top (p.harts h).core j.need j.needs)
-cause_inside w c n h l true p log (StoreOwns i j k r) s = oldest_inside w l h log (p.harts h).buffer s.waiting j.oldest
+-- the oldest store of each hart of the cluster is to a line of memory
+abbrev pub OldestInside : Config → ℕ → Part → Type 0
+OldestInside w c p = (h l : ℕ) → cluster_of w h ≡ c → HeadIn w l (p.harts h).buffer → l < lines w
+
+cause_inside : (w : Config) (c n h l : ℕ) (own : Bool) (p : Part) → AsksFor w c n h l p own → (HeadIn w l (p.harts h).buffer → l < lines w) → l < lines w
+cause_inside w c n h l false p (FrontReads i j k) s = loads_inside w l (p.harts h) j.need j.loads (proper w.image w.top (p.harts h).core j.need j.needs)
+cause_inside w c n h l true p (FrontOwns i j k r) s = writes_inside w l (p.harts h) j.need j.writes (proper w.image w.top (p.harts h).core j.need j.needs)
+cause_inside w c n h l true p (StoreOwns i j k r) s = s j.oldest
 
 hint_kind_off : (w : Config) (l h n : ℕ) (k : HintKind) (address : ℕ) (p : Part) → lines w ≤ l → in_memory w.top address 1 ≡ true → IsEmpty (p.cells l) → Leaves l (hint_row w h (Some n) (needed.Hint k address) p)
 hint_kind_off w l h n Fetch address p out i e = acts_off w l (line_at w address) (AskRead n h) p e (λ same. (let low = inside_byte w address i in absurd (omega arith)))
@@ -146,28 +150,28 @@ grant_off w l i [] p e = still_off l p e
 grant_off w l i (x ∷ xs) p e = record { cell = e; sent = (refl, tt) }
 
 -- each event but Take leaves it so
-row_off : (w : Config) (c : ℕ) (e : Kind) (d : HartEffect) (p : Part) (l : ℕ) (log : List Event) → lines w ≤ l → IsNoTake e → Guard w c e d p → ((h : ℕ) → cluster_of w h ≡ c → IsListed w log h (p.harts h)) → IsEmpty (p.cells l) → Leaves l (row w c e d p)
+pub row_off : (w : Config) (c : ℕ) (e : Kind) (d : HartEffect) (p : Part) (l : ℕ) → lines w ≤ l → IsNoTake e → Guard w c e d p → OldestInside w c p → IsEmpty (p.cells l) → Leaves l (row w c e d p)
 unfolding row Guard
-row_off w c (kind.Alu h pc) d p l log out t g s e = record { cell = e; sent = tt }
-row_off w c (kind.Fence h pc) d p l log out t g s e = record { cell = e; sent = tt }
-row_off w c (kind.Hint h pc slot) d p l log out t g s e = subst (λ n. Leaves l (hint_row w h.0 slot n (retire h.0 d p))) (sym g.next.retires.need_is) (hint_off w l h.0 slot g.kinds g.address d p out g.opens e)
-row_off w c (kind.Put h pc byte) d p l log out t g s e = record { cell = e; sent = tt }
-row_off w c (kind.Stop h pc end) d p l log out t g s e = record { cell = e; sent = tt }
-row_off w c (kind.Load a level) d p l log out t g s e = record { cell = e; sent = tt }
-row_off w c (kind.Store a) d p l log out t g s e = record { cell = e; sent = tt }
-row_off w c (kind.Commit h n k v) d p l log out t g s e = commit_off w l h.0 k.0 (p.harts h.0).buffer p e
-row_off w c (kind.Rmw a k v) d p l log out t g s e = acts_off w l k.0 (Commit a.hart.0 (written_in w a.word.0 a.mask (unwrap_or a.written 0) (content (p.cells k.0).copy))) (change a.hart.0 (record (p.harts a.hart.0) { core = d.next; reserved = rmw_reserved a.op (p.harts a.hart.0).reserved }) p) e (λ same. tt)
-row_off w c (kind.ScFail a) d p l log out t g s e = record { cell = e; sent = tt }
-row_off w c (kind.LockSend h m) d p l log out t g s e = record { cell = e; sent = (lock_sent h.0 l m g.need p g.sends, tt) }
-row_off w c (kind.BusRead h k) d p l log out t g s e = acts_off w l k.0 (BusRead h.0) p e (λ same. tt)
-row_off w c (kind.BusOwn h k) d p l log out t g s e = acts_off w l k.0 (BusOwn h.0) p e (λ same. tt)
-row_off w c (kind.Evict h k) d p l log out t g s e = acts_off w l k.0 (evict_act h.0 (p.cells k.0).copy) p e (λ same. evict_asks h.0 (is_owner h.0 (p.cells k.0).copy))
-row_off w c (kind.Ask slot h k own) d p l log out t g s e = acts_off w l k.0 (ask_act own slot h.0) p e (λ same. (let low = cause_inside w c slot h.0 k.0 own p log g.may.cause (s h.0 g.mine) in absurd (omega arith)))
-row_off w c (kind.Again slot k) d p l log out t g s e = acts_off w l k.0 Again p e (λ same. tt)
-row_off w c (kind.Install slot h k) d p l log out t g s e = acts_off w l k.0 Install (change h.0 (kept w k.0 (p.cells k.0).slot (held_by h.0 (p.cells k.0).copy) (p.harts h.0)) p) e (λ same. tt)
-row_off w c (kind.Grant a) d p l log out t g s e = grant_off w l (lock_at w a.word.0) (p.locks (lock_at w a.word.0)).queue p e
-row_off w c (kind.Free f a) d p l log out t g s e = record { cell = e; sent = (refl, tt) }
-row_off w c (kind.Take f m) d p l log out t g s e = absurd t
+row_off w c (kind.Alu h pc) d p l out t g s e = record { cell = e; sent = tt }
+row_off w c (kind.Fence h pc) d p l out t g s e = record { cell = e; sent = tt }
+row_off w c (kind.Hint h pc slot) d p l out t g s e = subst (λ n. Leaves l (hint_row w h.0 slot n (retire h.0 d p))) (sym g.next.retires.need_is) (hint_off w l h.0 slot g.kinds g.address d p out g.opens e)
+row_off w c (kind.Put h pc byte) d p l out t g s e = record { cell = e; sent = tt }
+row_off w c (kind.Stop h pc end) d p l out t g s e = record { cell = e; sent = tt }
+row_off w c (kind.Load a level) d p l out t g s e = record { cell = e; sent = tt }
+row_off w c (kind.Store a) d p l out t g s e = record { cell = e; sent = tt }
+row_off w c (kind.Commit h n k v) d p l out t g s e = commit_off w l h.0 k.0 (p.harts h.0).buffer p e
+row_off w c (kind.Rmw a k v) d p l out t g s e = acts_off w l k.0 (Commit a.hart.0 (written_in w a.word.0 a.mask (unwrap_or a.written 0) (content (p.cells k.0).copy))) (change a.hart.0 (record (p.harts a.hart.0) { core = d.next; reserved = rmw_reserved a.op (p.harts a.hart.0).reserved }) p) e (λ same. tt)
+row_off w c (kind.ScFail a) d p l out t g s e = record { cell = e; sent = tt }
+row_off w c (kind.LockSend h m) d p l out t g s e = record { cell = e; sent = (lock_sent h.0 l m g.need p g.sends, tt) }
+row_off w c (kind.BusRead h k) d p l out t g s e = acts_off w l k.0 (BusRead h.0) p e (λ same. tt)
+row_off w c (kind.BusOwn h k) d p l out t g s e = acts_off w l k.0 (BusOwn h.0) p e (λ same. tt)
+row_off w c (kind.Evict h k) d p l out t g s e = acts_off w l k.0 (evict_act h.0 (p.cells k.0).copy) p e (λ same. evict_asks h.0 (is_owner h.0 (p.cells k.0).copy))
+row_off w c (kind.Ask slot h k own) d p l out t g s e = acts_off w l k.0 (ask_act own slot h.0) p e (λ same. (let low = cause_inside w c slot h.0 k.0 own p g.may.cause (s h.0 k.0 g.mine) in absurd (omega arith)))
+row_off w c (kind.Again slot k) d p l out t g s e = acts_off w l k.0 Again p e (λ same. tt)
+row_off w c (kind.Install slot h k) d p l out t g s e = acts_off w l k.0 Install (change h.0 (kept w k.0 (p.cells k.0).slot (held_by h.0 (p.cells k.0).copy) (p.harts h.0)) p) e (λ same. tt)
+row_off w c (kind.Grant a) d p l out t g s e = grant_off w l (lock_at w a.word.0) (p.locks (lock_at w a.word.0)).queue p e
+row_off w c (kind.Free f a) d p l out t g s e = record { cell = e; sent = (refl, tt) }
+row_off w c (kind.Take f m) d p l out t g s e = absurd t
 
 -- no cluster has anything of the line, and no message of it is on its way
 pub record IsNowhere (l : ℕ) (m : Machine) : Type 0 where
@@ -194,17 +198,17 @@ take_by : (w : Config) (m : Machine) (c u l : ℕ) (f : ClusterId) (x : Msg) (d 
 take_by w m c u l f x d true is first k = absurd (none_first f.0 c (class_of x) (parcel f.0 c x u) (on l m.net) k.net (on-head l f.0 c (class_of x) (parcel f.0 c x u) m.net is first))
 take_by w m c u l f x d false is first k = (take_nowhere w c f x d (m.parts c) l is (k.cells c), on-tail-off l f.0 c (class_of x) (parcel f.0 c x u) m.net is first)
 
-leaves_by : (w : Config) (log : List Event) (m : Machine) (c u l : ℕ) (e : Kind) (d : HartEffect) → lines w ≤ l → ((h : ℕ) → cluster_of w h ≡ c → IsListed w log h ((m.parts c).harts h)) → Guard w c e d (m.parts c) → AtHead (taken c u e) m.net → IsNowhere l m
+leaves_by : (w : Config) (m : Machine) (c u l : ℕ) (e : Kind) (d : HartEffect) → lines w ≤ l → OldestInside w c (m.parts c) → Guard w c e d (m.parts c) → AtHead (taken c u e) m.net → IsNowhere l m
     → Leaves l (row w c e d (m.parts c)) × (on l (less (taken c u e) m.net) ≡ on l m.net)
-leaves_by w log m c u l (kind.Take f x) d out s can first k = take_by w m c u l f x d (is_of l x) refl first k
-leaves_by w log m c u l e d out s can first k = (row_off w c e d (m.parts c) l log out tt can s (k.cells c), taken_off l c u e m.net tt first)
+leaves_by w m c u l (kind.Take f x) d out s can first k = take_by w m c u l f x d (is_of l x) refl first k
+leaves_by w m c u l e d out s can first k = (row_off w c e d (m.parts c) l out tt can s (k.cells c), taken_off l c u e m.net tt first)
 
 nowhere_step : (w : Config) (log : List Event) (m : Machine) (g : Step) (l : ℕ) → lines w ≤ l → Reaches w log m → CanHappen w m g → IsNowhere l m → IsNowhere l (after w m g)
 nowhere_step w log m g l out r can k =
     let c = g.event.cluster.0 in
     let some : 0 < lines w = (let low = w.top.memory_in_range.low in omega arith) in
     let listed = (each_reached w log m 0 some r).listed in
-    let s = leaves_by w log m c g.stamp l g.event.kind g.done out (λ h mine. subst (λ z. IsListed w log h ((m.parts z).harts h)) mine (listed h)) can.steps.guard can.head k in
+    let s = leaves_by w m c g.stamp l g.event.kind g.done out (λ h i mine e. oldest_inside w i h log ((m.parts c).harts h).buffer (subst (λ z. IsListed w log h ((m.parts z).harts h)) mine (listed h)).waiting e) can.steps.guard can.head k in
     let d = row w c g.event.kind g.done (m.parts c) in
     record {
       cells = λ x. either l (record d.part { last = g.event.stamp }) (m.parts x) (x == c) s.0.cell (k.cells x);

@@ -124,7 +124,7 @@ sent_take k h c f m n a b e = grind (arith, nat_tests)
 pub take_local : (k h c f : ℕ) (m : Msg) → IsLocal c h (λ a b. take_row k h c f m a b)
 take_local k h c f m = record { home = home_take k h c f m; cell = cell_take k h c f m; sent = sent_take k h c f m }
 
-home_act : (l : LineId) (h : ℕ) (m : Act) (a : Cell) (b : Home) → (act_row l h m a b).home ≡ b
+pub home_act : (l : LineId) (h : ℕ) (m : Act) (a : Cell) (b : Home) → (act_row l h m a b).home ≡ b
 home_act l h m a b = grind (arith, nat_tests)
 
 cell_act : (l : LineId) (h : ℕ) (m : Act) (a : Cell) (b e : Home) → (act_row l h m a b).cell ≡ (act_row l h m a e).cell

@@ -34,7 +34,8 @@ use Rattle.dash_model.proofs.Tests.{same, is_same, differ, is_below, both_left, 
 use Rattle.dash_model.proofs.OnNet.{AllOf}
 use Rattle.dash_model.proofs.Each.{Each, EachSent, less_each, send_each, each_member}
 use Rattle.dash_model.proofs.Facts.{Place, AtHome, At, Back, Moving, holds, returns, moves_from, owner_in, dirty_of}
-use Rattle.dash_model.proofs.Bounds.{Strict, EntryBounded, Named, PacketNamed, named-head}
+use Rattle.dash_model.proofs.EntryBounds.{Strict, EntryBounded}
+use Rattle.dash_model.proofs.Bounds.{Named, PacketNamed, named-head}
 use Rattle.dash_model.proofs.Along.{AllAre, along, on-head}
 use Rattle.dash_model.proofs.LineSteps.{IsLineMsg}
 use Rattle.dash_model.proofs.Views.{View, Still, Does, IsNoTake, view}

@@ -22,7 +22,8 @@ use Rattle.dash_model.specs.Weight.{msg_weight, slot_weight, copy_weight, cell_w
 use Rattle.dash_model.specs.Settling.{HasAsked, AsksForLine}
 use Rattle.dash_model.proofs.Tests.{is_same}
 use Rattle.dash_model.proofs.OnNet.{AllSent}
-use Rattle.dash_model.proofs.Bounds.{EntryBounded, strict-length, without-length}
+use Rattle.dash_model.proofs.EntryBounds.{strict-length, EntryBounded}
+use Rattle.dash_model.proofs.Bounds.{without-length}
 
 -- messages that are sent, in a machine of n clusters
 abbrev pub sent_weight : ℕ → List Sent → ℕ
@@ -33,12 +34,12 @@ abbrev pub NoneAsks : List Sent → Type 0
 NoneAsks = AllSent (λ s. AsksForLine s.msg → ⊥)
 
 -- a row that takes what weighs k, at a cluster with this cell
-pub record Lightens (n k : ℕ) (a : Cell) (d : LineEffect) : Type 0 where
+pub record LightensLine (n k : ℕ) (a : Cell) (d : LineEffect) : Type 0 where
   pub less : sent_weight n d.sent + cell_weight d.cell < k + cell_weight a
   pub slot : HasAsked d.cell.slot → a.slot ≡ d.cell.slot
   pub sent : NoneAsks d.sent
 
-read_light : (n : ℕ) (l : LineId) (f : ℕ) (e : Entry) (a : Cell) (b : Home) → Lightens n (msg_weight n (Read l)) a (read_row l f e a b)
+read_light : (n : ℕ) (l : LineId) (f : ℕ) (e : Entry) (a : Cell) (b : Home) → LightensLine n (msg_weight n (Read l)) a (read_row l f e a b)
 unfolding weigh
 read_light n l f Uncached a b = record { less = omega arith; slot = λ t. refl; sent = (λ t. t, tt) }
 read_light n l f (SharedBy cs) a b = record { less = omega arith; slot = λ t. refl; sent = (λ t. t, tt) }
@@ -54,7 +55,7 @@ unfolding invals_to
 invals_ask l r [] c m k = (k, tt)
 invals_ask l r (x ∷ xs) c m k = (λ t. t, invals_ask l r xs c m k)
 
-own_light : (n : ℕ) (l : LineId) (f : ℕ) (e : Entry) (a : Cell) (b : Home) → 1 ≤ n → EntryBounded n e → Lightens n (msg_weight n (ReadEx l)) a (own_row l f e a b)
+own_light : (n : ℕ) (l : LineId) (f : ℕ) (e : Entry) (a : Cell) (b : Home) → 1 ≤ n → EntryBounded n e → LightensLine n (msg_weight n (ReadEx l)) a (own_row l f e a b)
 unfolding weigh
 own_light n l f Uncached a b some k = record { less = omega arith; slot = λ t. refl; sent = (λ t. t, tt) }
 own_light n l f (SharedBy cs) a b some k =
@@ -65,12 +66,12 @@ own_light n l f (SharedBy cs) a b some k =
     record { less = omega arith; slot = λ t. refl; sent = invals_ask l f (without f cs) f m (λ t. t) }
 own_light n l f (Dirty o) a b some k = record { less = omega arith; slot = λ t. refl; sent = (λ t. t, tt) }
 
-give_read_light : (n : ℕ) (l : LineId) (h : ℕ) (r : ClusterId) (x : Copy) (y : Acks) (a : Cell) (b : Home) → a.copy ≡ x → Lightens n (msg_weight n (FwdRead l r)) a (give_read l h r.0 x y a b)
+give_read_light : (n : ℕ) (l : LineId) (h : ℕ) (r : ClusterId) (x : Copy) (y : Acks) (a : Cell) (b : Home) → a.copy ≡ x → LightensLine n (msg_weight n (FwdRead l r)) a (give_read l h r.0 x y a b)
 unfolding weigh
 give_read_light n l h r (Held hs (Some o) d) NoAcks a b e = let same : copy_weight a.copy ≡ 2 * length hs = ap copy_weight e in record { less = omega arith; slot = λ t. refl; sent = (λ t. t, (λ t. t, tt)) }
 give_read_light n l h r _ _ a b e = record { less = omega arith; slot = λ t. refl; sent = (λ t. t, tt) }
 
-give_own_light : (n : ℕ) (l : LineId) (h : ℕ) (r : ClusterId) (x : Copy) (y : Acks) (a : Cell) (b : Home) → Lightens n (msg_weight n (FwdReadEx l r)) a (give_own l h r.0 x y a b)
+give_own_light : (n : ℕ) (l : LineId) (h : ℕ) (r : ClusterId) (x : Copy) (y : Acks) (a : Cell) (b : Home) → LightensLine n (msg_weight n (FwdReadEx l r)) a (give_own l h r.0 x y a b)
 unfolding weigh
 give_own_light n l h r (Held hs (Some o) d) NoAcks a b = record { less = omega arith; slot = λ t. refl; sent = (λ t. t, (λ t. t, tt)) }
 give_own_light n l h r _ _ a b = record { less = omega arith; slot = λ t. refl; sent = (λ t. t, tt) }
@@ -112,35 +113,35 @@ naks k (Owns n h Asked) = refuse_own_by n h (Owns n h Asked) (nat_lt n k)
 naks k (Owns n h Poisoned) = refuse_own_by n h (Owns n h Poisoned) (nat_lt n k)
 naks k s = stays s
 
-write_back_light : (n : ℕ) (l : LineId) (d : Line) (i : Bool) (a : Cell) (b : Home) → Lightens n (msg_weight n (WriteBack l d)) a (write_back_row d i a b)
+write_back_light : (n : ℕ) (l : LineId) (d : Line) (i : Bool) (a : Cell) (b : Home) → LightensLine n (msg_weight n (WriteBack l d)) a (write_back_row d i a b)
 unfolding weigh
 write_back_light n l d true a b = record { less = omega arith; slot = λ t. refl; sent = tt }
 write_back_light n l d false a b = record { less = omega arith; slot = λ t. refl; sent = tt }
 
-sharing_back_light : (n f : ℕ) (l : LineId) (d : Line) (r : ClusterId) (i : Bool) (a : Cell) (b : Home) → Lightens n (msg_weight n (SharingBack l d r)) a (sharing_back_row f d r.0 i a b)
+sharing_back_light : (n f : ℕ) (l : LineId) (d : Line) (r : ClusterId) (i : Bool) (a : Cell) (b : Home) → LightensLine n (msg_weight n (SharingBack l d r)) a (sharing_back_row f d r.0 i a b)
 unfolding weigh
 sharing_back_light n f l d r true a b = record { less = omega arith; slot = λ t. refl; sent = tt }
 sharing_back_light n f l d r false a b = record { less = omega arith; slot = λ t. refl; sent = tt }
 
-transfer_light : (n : ℕ) (l : LineId) (r : ClusterId) (i : Bool) (a : Cell) (b : Home) → Lightens n (msg_weight n (Transfer l r)) a (transfer_row l r.0 i a b)
+transfer_light : (n : ℕ) (l : LineId) (r : ClusterId) (i : Bool) (a : Cell) (b : Home) → LightensLine n (msg_weight n (Transfer l r)) a (transfer_row l r.0 i a b)
 unfolding weigh
 transfer_light n l r true a b = record { less = omega arith; slot = λ t. refl; sent = (λ t. t, tt) }
 transfer_light n l r false a b = record { less = omega arith; slot = λ t. refl; sent = tt }
 
-stays_light : (n k : ℕ) (a : Cell) (b : Home) → 1 ≤ k → Lightens n k a (record { cell = a; home = b; sent = [] })
+stays_light : (n k : ℕ) (a : Cell) (b : Home) → 1 ≤ k → LightensLine n k a (record { cell = a; home = b; sent = [] })
 unfolding weigh
 stays_light n k a b some = record { less = omega arith; slot = λ t. refl; sent = tt }
 
-read_at : (n : ℕ) (l : LineId) (f : ℕ) (i : Bool) (a : Cell) (b : Home) → Lightens n (msg_weight n (Read l)) a (cond i (read_row l f b.entry a b) (record { cell = a; home = b; sent = [] }))
+read_at : (n : ℕ) (l : LineId) (f : ℕ) (i : Bool) (a : Cell) (b : Home) → LightensLine n (msg_weight n (Read l)) a (cond i (read_row l f b.entry a b) (record { cell = a; home = b; sent = [] }))
 read_at n l f true a b = read_light n l f b.entry a b
 read_at n l f false a b = stays_light n (msg_weight n (Read l)) a b (omega arith)
 
-own_at : (n : ℕ) (l : LineId) (f : ℕ) (i : Bool) (a : Cell) (b : Home) → 1 ≤ n → (i ≡ true → EntryBounded n b.entry) → Lightens n (msg_weight n (ReadEx l)) a (cond i (own_row l f b.entry a b) (record { cell = a; home = b; sent = [] }))
+own_at : (n : ℕ) (l : LineId) (f : ℕ) (i : Bool) (a : Cell) (b : Home) → 1 ≤ n → (i ≡ true → EntryBounded n b.entry) → LightensLine n (msg_weight n (ReadEx l)) a (cond i (own_row l f b.entry a b) (record { cell = a; home = b; sent = [] }))
 own_at n l f true a b some k = own_light n l f b.entry a b some (k refl)
 own_at n l f false a b some k = stays_light n (msg_weight n (ReadEx l)) a b (omega arith)
 
 -- each message of a line that is taken; for ReadEx it has to be known that no more clusters share the line than there are
-pub take_light : (n k h c f : ℕ) (m : Msg) (a : Cell) (b : Home) → 1 ≤ n → (c ≡ h → EntryBounded n b.entry) → Lightens n (msg_weight n m) a (take_row k h c f m a b)
+pub take_light : (n k h c f : ℕ) (m : Msg) (a : Cell) (b : Home) → 1 ≤ n → (c ≡ h → EntryBounded n b.entry) → LightensLine n (msg_weight n m) a (take_row k h c f m a b)
 unfolding weigh
 take_light n k h c f (Read l) a b some e = read_at n l f (c == h) a b
 take_light n k h c f (ReadEx l) a b some e = own_at n l f (c == h) a b some (λ t. e (is_same c h t))
@@ -163,7 +164,7 @@ some_weight n (ReadEx l) = omega arith
 some_weight n m = omega arith
 
 -- a line that is installed
-pub install_light : (n s h : ℕ) (x : Slot) (a : Cell) (b : Home) → a.slot ≡ x → HasCome s h x → Lightens n 0 a (install_row x a b)
+pub install_light : (n s h : ℕ) (x : Slot) (a : Cell) (b : Home) → a.slot ≡ x → HasCome s h x → LightensLine n 0 a (install_row x a b)
 unfolding weigh
 install_light n s h (Reads m t (Came d)) a b e k = let same : slot_weight a.slot ≡ slot_weight (Reads m t (Came d)) = ap slot_weight e in record { less = omega arith; slot = λ z. absurd z; sent = tt }
 install_light n s h (Owns m t (Came d)) a b e k = let same : slot_weight a.slot ≡ slot_weight (Owns m t (Came d)) = ap slot_weight e in record { less = omega arith; slot = λ z. absurd z; sent = tt }
@@ -194,7 +195,7 @@ dropped t (Held hs None d) there = let fewer = without_less t hs there in let no
 dropped t (Held hs (Some o) d) there = let fewer = without_less t hs there in omega arith
 dropped t NoCopy there = absurd (cc)
 
-evict_own_light : (n h t : ℕ) (l : LineId) (x : Copy) (a : Cell) (b : Home) → a.copy ≡ x → is_owner t x ≡ true → held_by t x ≡ true → Lightens n 0 a (evict_row l h x a b)
+evict_own_light : (n h t : ℕ) (l : LineId) (x : Copy) (a : Cell) (b : Home) → a.copy ≡ x → is_owner t x ≡ true → held_by t x ≡ true → LightensLine n 0 a (evict_row l h x a b)
 unfolding weigh
 evict_own_light n h t l (Held hs (Some o) d) a b e owns there =
     let same : copy_weight a.copy ≡ 2 * length hs = ap copy_weight e in
@@ -203,11 +204,11 @@ evict_own_light n h t l (Held hs (Some o) d) a b e owns there =
 evict_own_light n h t l (Held hs None d) a b e owns there = absurd (cc)
 evict_own_light n h t l NoCopy a b e owns there = absurd (cc)
 
-evict_by : (n h t : ℕ) (l : LineId) (a : Cell) (b : Home) (i : Bool) → is_owner t a.copy ≡ i → held_by t a.copy ≡ true → Lightens n 0 a (act_row l h (cond i (Evict t) (Drop t)) a b)
+evict_by : (n h t : ℕ) (l : LineId) (a : Cell) (b : Home) (i : Bool) → is_owner t a.copy ≡ i → held_by t a.copy ≡ true → LightensLine n 0 a (act_row l h (cond i (Evict t) (Drop t)) a b)
 unfolding weigh
 evict_by n h t l a b true e there = evict_own_light n h t l a.copy a b refl e there
 evict_by n h t l a b false e there = let less = dropped t a.copy there in record { less = omega arith; slot = λ z. refl; sent = tt }
 
 -- a holder that evicts its line, as the owner or not
-pub evict_light : (n h t : ℕ) (l : LineId) (a : Cell) (b : Home) → held_by t a.copy ≡ true → Lightens n 0 a (act_row l h (evict_act t a.copy) a b)
+pub evict_light : (n h t : ℕ) (l : LineId) (a : Cell) (b : Home) → held_by t a.copy ≡ true → LightensLine n 0 a (act_row l h (evict_act t a.copy) a b)
 evict_light n h t l a b there = evict_by n h t l a b (is_owner t a.copy) refl there
