@@ -114,4 +114,6 @@ pub mod Examples
 pub mod RunsRelease
 pub mod RunsAdmissible
 pub mod LocalHarts
+pub mod LocalWeights
+pub mod LocalQueues
 pub mod LawsOffered

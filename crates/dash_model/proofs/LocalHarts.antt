@@ -87,7 +87,7 @@ waiting_by w e h s t (Kept b r) inside k = subst (AreOfMemory w) (sym b) k
 waiting_by w e h s t (Dropped x g n z v q b r) inside k = (subst (AreOfMemory w) b k).1
 waiting_by w e h s t (Added a is mine number b r) inside k = subst (AreOfMemory w) (sym b) (one_more w s.buffer (entry_of a) k (inside a is))
 
-event_ready : (w : Config) (c : ℕ) (e : Kind) (d : HartEffect) (p : Part) (h : ℕ) → Guard w c e d p → IsReady w (p.harts h) → IsReady w ((row w c e d p).part.harts h)
+pub event_ready : (w : Config) (c : ℕ) (e : Kind) (d : HartEffect) (p : Part) (h : ℕ) → Guard w c e d p → IsReady w (p.harts h) → IsReady w ((row w c e d p).part.harts h)
 event_ready w c e d p h can k = record {
   next = event_asks w c e d p h can k.next;
   waiting = waiting_by w e h (p.harts h) ((row w c e d p).part.harts h) (buffer_is w c e d p h can) (λ a is. (store_writes w c a d p (subst (λ z. Guard w c z d p) is can)).inside) k.waiting;
@@ -98,5 +98,8 @@ kept_along : (w : Config) (c : ℕ) (p : Part) (gs : List Step) → IsLocalRun w
 kept_along w c p [] r k h = k h
 kept_along w c p (g ∷ gs) r k h = kept_along w c (part_after w c g p) gs r.1 (λ i. event_ready w c g.event.kind g.done p i r.0.guard (k i)) h
 
+pub opening_ready : (w : Config) (h : ℕ) → IsReady w ((opening_part w).harts h)
+opening_ready w h = record { next = λ sent. absurd (cc); waiting = tt }
+
 pub local_runs_keep_harts : LocalRunsKeepHarts
-local_runs_keep_harts w c gs h r = kept_along w c (opening_part w) gs r (λ i. record { next = λ sent. absurd (cc); waiting = tt }) h
+local_runs_keep_harts w c gs h r = kept_along w c (opening_part w) gs r (opening_ready w) h

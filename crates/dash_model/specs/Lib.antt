@@ -50,3 +50,4 @@ pub mod TableMessages
 pub mod TableLocks
 pub mod RunLaws
 pub mod LocalHarts
+pub mod LocalWeights

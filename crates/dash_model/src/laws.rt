@@ -5,6 +5,7 @@ ghost use Rattle.dash_model.specs.Examples.{ExampleRuns};
 ghost use Rattle.dash_model.specs.History.{VersionsStayBelowGreatest};
 ghost use Rattle.dash_model.specs.LineFacts.{RunsKeepLines};
 ghost use Rattle.dash_model.specs.LocalHarts.{LocalRunsKeepHarts};
+ghost use Rattle.dash_model.specs.LocalWeights.{LocalWeightsFall, LocalRunsQueueAtHome};
 ghost use Rattle.dash_model.specs.LockFacts.{MessagesAreInRange, LinesAreOfMemory, RunsKeepLocks, LocksAreCounted, LockUsesAreNumbered};
 ghost use Rattle.dash_model.specs.MachineLaws.{EventsFixEffects, LanesAreQueues, StepsChangeOnePart, StampsRise, CommitsAreNumbered, EventsHappen, LocalRunsGrow, MergesAreRuns};
 ghost use Rattle.dash_model.specs.OwedFacts.{RunsOweAsLogged};
@@ -155,6 +156,18 @@ pub fn local_runs_grow()
 /// instruction as its next one, so it goes on, and each store that waits is to a word of memory.
 pub fn local_runs_keep_harts()
     ensures { LocalRunsKeepHarts }
+{}
+
+/// Wherever a local run leads that took messages from clusters of the machine alone, each event by which the
+/// cluster settles lowers its own weight: what it sends and what it leaves together weigh less than what it takes
+/// and what it had.
+pub fn local_weights_fall()
+    ensures { LocalWeightsFall }
+{}
+
+/// In a local run, whatever its lanes bring, nobody waits at the cluster for a lock word of another home.
+pub fn local_runs_queue_at_home()
+    ensures { LocalRunsQueueAtHome }
 {}
 
 /// Where clusters run by themselves, each takes from its lanes what the others sent, and stamps stay
