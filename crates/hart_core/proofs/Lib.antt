@@ -1,4 +1,5 @@
 pub mod Shifts
 pub mod Unique
 pub mod Needed
+pub mod Fronts
 pub mod LawsOffered

@@ -16,6 +16,7 @@ use Rattle.rv32_decode.specs.declared.prefetch.Hint.{Hint}
 use Rattle.rv32_alu.specs.Arithmetic.{alu_value, is_taken, moved_by}
 use Rattle.hart_core.specs.declared.found.Found.{Found}
 use Rattle.hart_core.specs.declared.found.Found.TheVariants.{NoWord, NoInstr, This}
+use Rattle.hart_core.specs.declared.front.Front.{Front}
 use Rattle.dash_base.specs.declared.need.Need.{Need}
 use Rattle.dash_base.specs.declared.need.Need.TheVariants as needed
 use Rattle.hart_core.specs.HartState.{HartState, reg, with_register, retired_to, can_go_on}
@@ -138,6 +139,12 @@ NeedsIf false image t h need = need ≡ needed.Rest
 
 abbrev pub IsNext : ImageView → Topology → HartState → Need → Type 0
 IsNext image t h need = NeedsIf (can_go_on t h) image t h need
+
+-- this stands at the hart's pc, and it is what the hart needs; where the hart rests, what stands there doesn't count
+pub record IsFront (image : ImageView) (t : Topology) (h : HartState) (front : Front) : Type 0 where
+  pub next : IsNext image t h front.need
+  pub found : can_go_on t h ≡ true → IsFound image h.pc front.found
+  pub need : can_go_on t h ≡ true → front.need ≡ need_at image t h front.found
 
 -- a hart that did its next instruction with this answer
 pub record IsFinished (image : ImageView) (t : Topology) (h : HartState) (answer : ℕ) (k : HartState) : Type 0 where

@@ -6,6 +6,7 @@ ghost use Rattle.hart_core.specs.Meaning.{jump_need};
 
 use crate::access::{amo_need, load_need, loaded, store_need};
 use crate::found::Found;
+use crate::front::Front;
 use dash_base::{End, HartId, Instr, Need, Topology, Trap};
 use elf_load::Image;
 use rv32_alu::{alu, branch};
@@ -35,7 +36,7 @@ impl Hart {
     ghost use Rattle.hart_core.specs.Opening.{opening_hart};
     ghost use Rattle.dash_base.specs.Places.{hart_count};
     ghost use Rattle.hart_core.specs.Access.{IsProper};
-    ghost use Rattle.hart_core.specs.Meaning.{IsNext, IsFinished, Does};
+    ghost use Rattle.hart_core.specs.Meaning.{IsNext, IsFront, IsFinished, Does};
     ghost use Rattle.dash_base.specs.declared.need.Need.{Need};
     ghost use Rattle.dash_base.specs.declared.need.Need.TheVariants.{Rest};
 
@@ -104,6 +105,36 @@ impl Hart {
         } else {
             Need::Rest
         }
+    }
+
+    /// Its next instruction, found.
+    pub fn front(&self, image: &Image, topology: &Topology) -> Front
+        ensures { IsFront image.now topology.now self.now result }
+    {
+        if !self.can_go_on(topology) {
+            return Front {
+                found: Found::NoWord,
+                need: Need::Rest,
+            };
+        }
+        let found = self.find(image);
+        let need = self.need_at(image, topology, &found);
+        Front { found, need }
+    }
+
+    /// Does its next instruction, which was found, with an answer as `finish` has it, and finds the one
+    /// after it.
+    pub fn advance(&mut self, image: &Image, topology: &Topology, front: &mut Front, answer: u32)
+        requires goes { IsTrue (can_go_on topology.now self.old) }
+        requires front { IsFront image.now topology.now self.old front.old }
+        ensures finished { IsFinished image.now topology.now self.old answer self.new }
+        ensures next { (need : Need) → IsNext image.now topology.now self.old need
+            → Does image.now topology.now self.old need answer self.new }
+        ensures front { IsFront image.now topology.now self.new front.new }
+    {
+        let now = *front;
+        self.answer(&now.found, &now.need, answer);
+        *front = self.front(image, topology);
     }
 
     /// Does its next instruction. `answer` is the word that a load or an atomic operation found, also
