@@ -19,8 +19,9 @@ use Rattle.dash_event.specs.declared.event.Kind.TheVariants as kind
 use Rattle.write_buffer.specs.Look.{newest_of}
 use Rattle.ack_counter.specs.View.{Counted, entry_at}
 use Rattle.fence_release.proofs.LawsOffered.{MayCommit, commit_tells, drained_holds}
+use Rattle.hart_core.specs.declared.front.Front.{Front}
 use Rattle.hart_core.specs.HartState.{HartState}
-use Rattle.hart_core.specs.Meaning.{IsNext, Does}
+use Rattle.hart_core.specs.Meaning.{IsNext, IsFront, Does}
 use Rattle.snoop_bus.specs.View.{BusView, holding_at, after_commit, IsOneMap}
 use Rattle.dash_model.specs.Config.{Config, line_id, line_at}
 use Rattle.dash_model.specs.Part.{Processor, Part}
@@ -163,7 +164,7 @@ atomic_as w c k n operand old answer o g word labels b v x core d next l r bus f
     rw (bus_is, kept_is, line, next_is, access)
     (does_atomic w c k n operand o g word labels v x core d f local e low sized map needs is number (has_reserved o x.reserved word free) acting)
 
-pub sized_atomic : (w : Config) (c k : ℕ) (v : PartsView) (x : Local) (core : HartState) (next : Line) (l : ℕ) (r : Option WordAddr) (bus : BusView) → k < w.top.harts → AreSized w c v → x ≡ slice_index_or v.locals k x → bus ≡ after_commit v.bus l next
-    → AreSized w c (with_line v (slice_set v.locals k (record x { core = core; reserved = r })) bus v.slots v.acks)
-sized_atomic w c k v x core next l r bus low sized is bus_is =
-    subst (λ b. AreSized w c (with_line v (slice_set v.locals k (record x { core = core; reserved = r })) b v.slots v.acks)) (sym bus_is) (sized_after w c k v x (record x { core = core; reserved = r }) l next v.acks low sized is refl refl sized.acks_in_range)
+pub sized_atomic : (w : Config) (c k : ℕ) (v : PartsView) (x : Local) (core : HartState) (front : Front) (next : Line) (l : ℕ) (r : Option WordAddr) (bus : BusView) → k < w.top.harts → AreSized w c v → x ≡ slice_index_or v.locals k x → bus ≡ after_commit v.bus l next → IsFront w.image w.top core front
+    → AreSized w c (with_line v (slice_set v.locals k (record x { core = core; front = front; reserved = r })) bus v.slots v.acks)
+sized_atomic w c k v x core front next l r bus low sized is bus_is found =
+    subst (λ b. AreSized w c (with_line v (slice_set v.locals k (record x { core = core; front = front; reserved = r })) b v.slots v.acks)) (sym bus_is) (sized_after w c k v x (record x { core = core; front = front; reserved = r }) l next v.acks low sized is refl (λ f. found) refl sized.acks_in_range)

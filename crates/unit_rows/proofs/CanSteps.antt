@@ -102,7 +102,7 @@ copied k (Some h) e = record { copy = h.copy; is = refl }
 
 module _ (w : Config) (c k : ℕ) (v : PartsView) (low : k < w.top.harts) (sized : AreSized w c v) where
   retired : (x : Local) (need : Need) → x ≡ slice_index_or v.locals k x → (n : Needs w.image w.top x.core need) → Retired w v (changed_local v k (record x { core = done w x need n 0 })) k 0 x.core.pc
-  retired x need is n = retired_from w v k 0 x.core.pc x (done w x need n 0) low sized.locals is (does_it w x need n 0) refl
+  retired x need is n = retired_from w v k 0 x.core.pc x (done w x need n 0) x.front low sized.locals is (does_it w x need n 0) refl
 
   pub can_alu : (x : Local) → x ≡ slice_index_or v.locals k x → HartNeeds w v k needed.Alu → Can w c v (Step k)
   can_alu x is n = can_by (does_alu w c k x.core.pc (hart_id (hart_at w c k)) v _ (retired x needed.Alu is (here w k v x needed.Alu is n)) refl low sized n)

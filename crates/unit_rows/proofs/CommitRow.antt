@@ -84,4 +84,4 @@ pub sized_committed : (w : Config) (c k : ℕ) (v : PartsView) (next : Line) (l 
 sized_committed w c k v next l x locals b acks low sized here locals_is b_is acks_is =
     rw (locals_is, b_is, acks_is)
     (let base : AreSized w c (after v k (committed x) l next (owing v.acks l k)) =
-    sized_after w c k v x (committed x) l next (owing v.acks l k) low sized here refl (owing_capacity v.acks l k) (owing_range v.acks l k (line_count w.top) sized.acks_in_range) in base)
+    sized_after w c k v x (committed x) l next (owing v.acks l k) low sized here refl (λ f. f) (owing_capacity v.acks l k) (owing_range v.acks l k (line_count w.top) sized.acks_in_range) in base)

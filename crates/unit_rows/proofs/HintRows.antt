@@ -72,8 +72,8 @@ abbrev pub asking_parts : PartsView → ℕ → ℕ → LineId → Bool → Tabl
 asking_parts v n k line own acks = with_line v v.locals v.bus (with_slot v.slots n (Some (issued k line own))) acks
 
 -- the hart retires of the parts as they were before
-abbrev before : (w : Config) (v : PartsView) (z : PartsView) (n k pc : ℕ) (line : LineId) (own : Bool) (acks : TableView) (r : Retired w (asking_parts v n k line own acks) z k 0 pc) → Retired w v (changed_local v k (record r.local { core = r.core })) k 0 pc
-before w v z n k pc line own acks r = record { local = r.local; is = r.is; core = r.core; does = r.does; pc_is = r.pc_is; new_is = refl }
+abbrev before : (w : Config) (v : PartsView) (z : PartsView) (n k pc : ℕ) (line : LineId) (own : Bool) (acks : TableView) (r : Retired w (asking_parts v n k line own acks) z k 0 pc) → Retired w v (changed_local v k (record r.local { core = r.core; front = r.front })) k 0 pc
+before w v z n k pc line own acks r = record { local = r.local; is = r.is; core = r.core; front = r.front; does = r.does; pc_is = r.pc_is; new_is = refl }
 
 read_row : (w : Config) (h n address : ℕ) (kinds : HintKind) (p : Part) → kinds ≢ Exclusive → hint_row w h (Some n) (needed.Hint kinds address) p ≡ acts w (line_at w address) (AskRead n h) p
 read_row w h n address Fetch p e = refl
@@ -89,7 +89,7 @@ to_read w c k pc address n kinds g v z r e low sized needs one shared f = record
     done = effect (needed.Hint kinds address) r.core;
     happens = λ p s.
         let l = line_at w address in
-        let v1 = changed_local v k (record r.local { core = r.core }) in
+        let v1 = changed_local v k (record r.local { core = r.core; front = r.front }) in
         let q = plain_step w c k g.0 pc (needed.Hint kinds address) v v1 p (before w v z n k pc (line_id l) false v.acks r) e low sized needs s in
         let p1 = retire g.0 (effect (needed.Hint kinds address) r.core) p in
         let slots = with_slot v.slots n (Some (issued k (line_id l) false)) in
@@ -117,7 +117,7 @@ to_own w c k pc address n g v z r e low sized needs one f = record {
     done = effect (needed.Hint Exclusive address) r.core;
     happens = λ p s.
         let l = line_at w address in
-        let v1 = changed_local v k (record r.local { core = r.core }) in
+        let v1 = changed_local v k (record r.local { core = r.core; front = r.front }) in
         let q = plain_step w c k g.0 pc (needed.Hint Exclusive address) v v1 p (before w v z n k pc (line_id l) true (begun v.acks l) r) e low sized needs s in
         let p1 = retire g.0 (effect (needed.Hint Exclusive address) r.core) p in
         let slots = with_slot v.slots n (Some (issued k (line_id l) true)) in

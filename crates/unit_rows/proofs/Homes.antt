@@ -129,6 +129,7 @@ sized_home w c v from m s =
     record {
       locals = s.locals;
       buffers = s.buffers;
+      fronts = s.fronts;
       bus_harts = s.bus_harts;
       l1 = s.l1;
       l2 = s.l2;

@@ -21,7 +21,7 @@ use Rattle.dash_model.specs.Acts.{Install as Installs, act_row, install_row}
 use Rattle.dash_model.specs.Words.{held_by}
 use Rattle.unit_rows.specs.declared.parts.Local.{Local}
 use Rattle.unit_rows.specs.declared.choice.Choice.TheVariants.{Install}
-use Rattle.unit_rows.specs.Shown.{PartsView, hart_at, copy_by, phase_by, slot_by, ShowsHart, Shows, AreSized}
+use Rattle.unit_rows.specs.Shown.{PartsView, hart_at, copy_by, phase_by, slot_by, HasFront, ShowsHart, Shows, AreSized}
 use Rattle.unit_rows.specs.Rows.{Happens, DoesChoice}
 use Rattle.unit_rows.specs.Sweeps.{swept, AreSwept}
 use Rattle.unit_rows.specs.SlotFits.{InstallFits}
@@ -34,7 +34,7 @@ use Rattle.unit_rows.proofs.SlotTurns.{slots_range, slots_count}
 use Rattle.unit_rows.proofs.OneHart.{shown_hart, cluster_is}
 use Rattle.unit_rows.proofs.RoomOn.{held_is, room_table}
 use Rattle.unit_rows.proofs.BusRows.{alone_leave, swept_between}
-use Rattle.unit_rows.proofs.Sized.{SameSizes, set_sizes, swept_sizes, swept_size, more_sizes, sized_line}
+use Rattle.unit_rows.proofs.Sized.{SameSizes, set_sizes, swept_sizes, swept_size, swept_front, more_sizes, sized_line}
 use Rattle.unit_rows.proofs.AgainRow.{on_line_of, off_line_of}
 use Rattle.unit_rows.proofs.NoInstruction.{no_instruction}
 
@@ -137,7 +137,7 @@ pub sized_installed : (w : Config) (c n a m : ℕ) (v : PartsView) (s : Request)
     → b ≡ after_install v.bus s.hart s.line.0 d s.own → slots ≡ with_slot v.slots n None → x ≡ slice_index_or v.locals s.hart x → y ≡ swept w s.line.0 clear x → first ≡ slice_set v.locals s.hart y → AreSwept w s.line.0 a m first locals → AreSized w c (with_line v locals b slots v.acks)
 sized_installed w c n a m v s d x y b slots first locals clear low sized f b_is slots_is here y_is first_is are =
     let inside : s.hart < length v.locals = subst (λ z. s.hart < z) (sym sized.locals) f.local in
-    let sizes : SameSizes w v.locals first = subst (SameSizes w v.locals) (sym first_is) (set_sizes w v.locals s.hart y x inside here (ap (λ (z : Local). z.buffer.capacity) y_is ∙ swept_size w s.line.0 clear x)) in
+    let sizes : SameSizes w v.locals first = subst (SameSizes w v.locals) (sym first_is) (set_sizes w v.locals s.hart y x inside here (ap (λ (z : Local). z.buffer.capacity) y_is ∙ swept_size w s.line.0 clear x) (λ f. subst (HasFront w) (sym y_is) (swept_front w s.line.0 clear x f))) in
     rw (b_is, slots_is)
     (let base : AreSized w c (after v n s d locals) =
     sized_line w c v locals (all_but s.hart) s.line.0 (bus.held_by s.hart d s.own) (with_slot v.slots n None) v.acks sized (more_sizes w v.locals first locals sizes (swept_sizes w s.line.0 a m first locals are)) refl (slots_count v.slots n None)

@@ -3,7 +3,7 @@ pub use Rattle.unit_rows.proofs.Locals.{local_more}
 pub use Rattle.unit_rows.proofs.Openings.{opening_shows, opening_sized}
 pub use Rattle.unit_rows.proofs.Sized.{SameSizes, same_sizes, sized_line, sized_bus}
 pub use Rattle.unit_rows.proofs.LineNeeds.{next_needs}
-pub use Rattle.unit_rows.proofs.Retiring.{one_local}
+pub use Rattle.unit_rows.proofs.Retiring.{one_local, front_of}
 pub use Rattle.unit_rows.proofs.AcksOn.{begun_in_range}
 pub use Rattle.unit_rows.proofs.CanLines.{can_commit, can_read, can_own, can_evict, can_install, can_ask, can_again, can_grant}
 pub use Rattle.unit_rows.proofs.CanSteps.{can_alu, can_put, can_stop, can_fence, can_hint, can_load, can_store, can_atomic, can_lock, can_unlock}

@@ -13,6 +13,7 @@ pub mod Homes
 pub mod LockWords
 pub mod AcksRoom
 pub mod Retiring
+pub mod Fronted
 pub mod Drained
 pub mod StepTold
 pub mod PlainSteps

@@ -32,7 +32,7 @@ use Rattle.dash_model.specs.Guard.{Guard}
 use Rattle.dash_model.specs.Row.{row}
 use Rattle.unit_rows.specs.declared.choice.Choice.TheVariants.{Step}
 use Rattle.unit_rows.specs.declared.parts.Local.{Local}
-use Rattle.unit_rows.specs.Shown.{PartsView, hart_at, copy_by, reserved_by, ShowsHart, Shows, AreSized}
+use Rattle.unit_rows.specs.Shown.{PartsView, hart_at, copy_by, reserved_by, HasFront, ShowsHart, Shows, AreSized}
 use Rattle.unit_rows.specs.Steps.{HartNeeds, changed_local}
 use Rattle.unit_rows.specs.Rows.{DoesChoice, Cannot}
 use Rattle.unit_rows.proofs.Same.{at_upd, same_or_not, test_same, test_differ}
@@ -274,12 +274,13 @@ held_as w c k n mask level l old answer g word labels reserve d a b r v x core e
     (subst (λ y. DoesChoice w c (Step k) (kind.Load y level) v (after_read v k m (record x { core = core; reserved = reserves reserve word x.reserved })) []) (sym access) first))
 
 -- the sizes after a read
-pub sized_read : (w : Config) (c k l : ℕ) (v : PartsView) (y : Local) (b : BusView) → k < w.top.harts → AreSized w c v → y.buffer.capacity ≡ w.top.buffer → b ≡ after_hart_read v.bus k l → AreSized w c (loaded_parts v k y b)
-sized_read w c k l v y b low sized cap is =
-    let z = sized_local w c v k y low sized cap in
+pub sized_read : (w : Config) (c k l : ℕ) (v : PartsView) (y : Local) (b : BusView) → k < w.top.harts → AreSized w c v → y.buffer.capacity ≡ w.top.buffer → HasFront w y → b ≡ after_hart_read v.bus k l → AreSized w c (loaded_parts v k y b)
+sized_read w c k l v y b low sized cap found is =
+    let z = sized_local w c v k y low sized cap found in
     subst (λ i. AreSized w c (loaded_parts v k y i)) (sym is) (record {
       locals = z.locals;
       buffers = z.buffers;
+      fronts = z.fronts;
       bus_harts = harts-after_hart_read v.bus k l ∙ z.bus_harts;
       l1 = l1_lines-after_hart_read v.bus k l ∙ z.l1;
       l2 = l2_lines-after_hart_read v.bus k l ∙ z.l2;

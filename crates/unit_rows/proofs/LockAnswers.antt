@@ -8,8 +8,9 @@ use Rattle.dash_base.specs.declared.id.HartId.{HartId}
 use Rattle.dash_msg.specs.declared.msg.Msg.{Msg}
 use Rattle.dash_msg.specs.declared.msg.Msg.TheVariants.{LockGrant, UnlockAck}
 use Rattle.dash_event.specs.declared.event.Kind.TheVariants as kind
+use Rattle.hart_core.specs.declared.front.Front.{Front}
 use Rattle.hart_core.specs.HartState.{HartState}
-use Rattle.hart_core.specs.Meaning.{Does, IsFinished}
+use Rattle.hart_core.specs.Meaning.{Does, IsFinished, IsFront}
 use Rattle.dash_model.specs.Config.{Config, cluster_of}
 use Rattle.dash_model.specs.Part.{Part}
 use Rattle.dash_model.specs.HartRows.{PartEffect, HartEffect, quiet, change}
@@ -18,7 +19,7 @@ use Rattle.dash_model.specs.Row.{msg_row, msg_row_if, row}
 use Rattle.dash_model.specs.Ranges.{own_hart, applies}
 use Rattle.dash_model.specs.Guard.{DoesIf, TakeFits, Guard}
 use Rattle.unit_rows.specs.declared.parts.Local.{Local}
-use Rattle.unit_rows.specs.Shown.{PartsView, hart_at, ShowsHart, Shows, AreSized}
+use Rattle.unit_rows.specs.Shown.{PartsView, hart_at, HasFront, ShowsHart, Shows, AreSized}
 use Rattle.unit_rows.specs.Rows.{Happens}
 use Rattle.unit_rows.specs.Takes.{Takes}
 use Rattle.unit_rows.specs.LockWords.{own_hart_number, IsAnswer}
@@ -137,13 +138,17 @@ module _ (w : Config) (c : ℕ) (v : PartsView) (from : ClusterId) (m : Msg) (h 
   pub takes_answer : Takes w c from m v (with_local v k (done_by (slice_index_or v.locals k x) core)) []
   takes_answer = record { is_of = (refl, refl); does = record { done = effect; happens = happens } }
 
--- one hart changed leaves the sizes, where its buffer has the same
-sized_change : (w : Config) (c : ℕ) (v : PartsView) (k : ℕ) (y : Local) → k < w.top.harts → AreSized w c v → y.buffer.capacity ≡ w.top.buffer → AreSized w c (with_local v k y)
-sized_change w c v k y low z cap = record {
+-- one hart changed leaves the sizes, where its buffer has the same and its next instruction is found
+sized_change : (w : Config) (c : ℕ) (v : PartsView) (k : ℕ) (y : Local) → k < w.top.harts → AreSized w c v → y.buffer.capacity ≡ w.top.buffer → HasFront w y → AreSized w c (with_local v k y)
+sized_change w c v k y low z cap found = record {
   locals = length-set v.locals k y ∙ z.locals;
   buffers = λ j d below. elim (same_or_not j k) [
     | inl e ↦ subst (λ i. (slice_index_or (slice_set v.locals k y) i d).buffer.capacity ≡ w.top.buffer) (sym e) (ap (λ (x : Local). x.buffer.capacity) (get_or-set_same v.locals k y d (subst (λ n. k < n) (sym z.locals) low)) ∙ cap)
     | inr o ↦ ap (λ (x : Local). x.buffer.capacity) (get_or-set_other v.locals k j y d o) ∙ z.buffers j d below
+  ];
+  fronts = λ j d below. elim (same_or_not j k) [
+    | inl e ↦ subst (λ i. HasFront w (slice_index_or (slice_set v.locals k y) i d)) (sym e) (subst (HasFront w) (sym (get_or-set_same v.locals k y d (subst (λ n. k < n) (sym z.locals) low))) found)
+    | inr o ↦ subst (HasFront w) (sym (get_or-set_other v.locals k j y d o)) (z.fronts j d below)
   ];
   bus_harts = z.bus_harts;
   l1 = z.l1;
@@ -162,8 +167,8 @@ sized_change w c v k y low z cap = record {
   lock_harts = z.lock_harts;
 }
 
-pub sized_answer : (w : Config) (c : ℕ) (v : PartsView) (k : ℕ) (x : Local) (core : HartState) → k < w.top.harts → AreSized w c v → x ≡ slice_index_or v.locals k x → AreSized w c (with_local v k (done_by x core))
-sized_answer w c v k x core low z is = sized_change w c v k (done_by x core) low z (ap (λ (y : Local). y.buffer.capacity) is ∙ z.buffers k x low)
+pub sized_answer : (w : Config) (c : ℕ) (v : PartsView) (k : ℕ) (x : Local) (core : HartState) (front : Front) → k < w.top.harts → AreSized w c v → x ≡ slice_index_or v.locals k x → IsFront w.image w.top core front → AreSized w c (with_local v k (record (done_by x core) { front = front }))
+sized_answer w c v k x core front low z is found = sized_change w c v k (record (done_by x core) { front = front }) low z (ap (λ (y : Local). y.buffer.capacity) is ∙ z.buffers k x low) found
 
 -- the hart that was read is the one of its number
 pub one_local : (w : Config) (c : ℕ) (v : PartsView) (k : ℕ) (x : Local) → AreSized w c v → k < w.top.harts → x ≡ slice_index_or v.locals k x → (d : Local) → slice_index_or v.locals k d ≡ x

@@ -57,6 +57,7 @@ sized_locks w c v i l s =
     record {
       locals = s.locals;
       buffers = s.buffers;
+      fronts = s.fronts;
       bus_harts = s.bus_harts;
       l1 = s.l1;
       l2 = s.l2;

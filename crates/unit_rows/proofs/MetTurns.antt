@@ -34,6 +34,7 @@ pub sized_slots : (w : Config) (c : ℕ) (v : PartsView) (slots : SlotsView) (ac
 sized_slots w c v slots acks z s a = record {
   locals = z.locals;
   buffers = z.buffers;
+  fronts = z.fronts;
   bus_harts = z.bus_harts;
   l1 = z.l1;
   l2 = z.l2;

@@ -84,6 +84,7 @@ pub opening_sized : (w : Config) (c : ℕ) (v : PartsView) → IsOpening w c v �
 opening_sized w c v o = record {
   locals = o.locals.count;
   buffers = λ k d low. ap (λ (b : BufferView). b.capacity) (o.locals.each k d low).buffer;
+  fronts = λ k d low. (o.locals.each k d low).front;
   bus_harts = ap bus_harts o.bus ∙ harts-empty_bus w.top.harts w.top.l1 w.top.l2;
   l1 = ap (λ (b : BusView). b.l1_lines) o.bus ∙ empty_l1 w.top.harts w.top.l1 w.top.l2;
   l2 = ap (λ (b : BusView). b.l2_lines) o.bus ∙ empty_l2 w.top.harts w.top.l1 w.top.l2;

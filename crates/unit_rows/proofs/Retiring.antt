@@ -8,6 +8,7 @@ use Rattle.elf_load.specs.Image.{ImageView}
 use Rattle.dash_base.specs.declared.id.HartId.{HartId}
 use Rattle.dash_base.specs.declared.topology.Topology.{Topology}
 use Rattle.dash_base.specs.declared.need.Need.{Need}
+use Rattle.hart_core.specs.declared.front.Front.{Front}
 use Rattle.hart_core.specs.HartState.{HartState, can_go_on}
 use Rattle.hart_core.specs.Meaning.{Needs, Does, IsNext, NeedsIf}
 use Rattle.dash_model.specs.Config.{Config, cluster_of}
@@ -15,7 +16,7 @@ use Rattle.dash_model.specs.Part.{Processor, Part}
 use Rattle.dash_model.specs.HartRows.{HartEffect, retire}
 use Rattle.dash_model.specs.HartGuards.{Retires, RetiresAt, number_of}
 use Rattle.unit_rows.specs.declared.parts.Local.{Local}
-use Rattle.unit_rows.specs.Shown.{PartsView, hart_at, ShowsHart, Shows, AreSized}
+use Rattle.unit_rows.specs.Shown.{PartsView, hart_at, HasFront, ShowsHart, Shows, AreSized}
 use Rattle.unit_rows.specs.Steps.{HartNeeds, HartGoes, changed_local, Retired}
 use Rattle.unit_rows.proofs.Same.{same_or_not}
 use Rattle.unit_rows.proofs.Harts.{shows_change}
@@ -46,25 +47,30 @@ goes_of w v k need n = λ d. (n d).goes
 pub goes_on : (w : Config) (v : PartsView) (k : ℕ) (x : Local) → x ≡ slice_index_or v.locals k x → HartGoes w v k → IsTrue (can_go_on w.top x.core)
 goes_on w v k x is goes = ap (λ (y : Local). can_go_on w.top y.core) is ∙ goes x
 
-pub retired_from : (w : Config) (v : PartsView) (k answer pc : ℕ) (x : Local) (core : HartState) → k < w.top.harts → length v.locals ≡ w.top.harts → x ≡ slice_index_or v.locals k x
+pub retired_from : (w : Config) (v : PartsView) (k answer pc : ℕ) (x : Local) (core : HartState) (front : Front) → k < w.top.harts → length v.locals ≡ w.top.harts → x ≡ slice_index_or v.locals k x
     → ((need : Need) → IsNext w.image w.top x.core need → Does w.image w.top x.core need answer core) → pc ≡ x.core.pc
-    → Retired w v (changed_local v k (record x { core = core })) k answer pc
-retired_from w v k answer pc x core low count is does at = record {
+    → Retired w v (changed_local v k (record x { core = core; front = front })) k answer pc
+retired_from w v k answer pc x core front low count is does at = record {
   local = x;
   is = one_local v k x (subst (λ n. k < n) (sym count) low) is;
   core = core;
+  front = front;
   does = λ need n. does need (next_needs w.image w.top x.core need n);
   pc_is = at;
   new_is = refl;
 }
 
--- one hart changed leaves the sizes, where its buffer has the same
-pub sized_local : (w : Config) (c : ℕ) (v : PartsView) (k : ℕ) (y : Local) → k < w.top.harts → AreSized w c v → y.buffer.capacity ≡ w.top.buffer → AreSized w c (changed_local v k y)
-sized_local w c v k y low z cap = record {
+-- one hart changed leaves the sizes, where its buffer has the same and its next instruction is found
+pub sized_local : (w : Config) (c : ℕ) (v : PartsView) (k : ℕ) (y : Local) → k < w.top.harts → AreSized w c v → y.buffer.capacity ≡ w.top.buffer → HasFront w y → AreSized w c (changed_local v k y)
+sized_local w c v k y low z cap found = record {
   locals = length-set v.locals k y ∙ z.locals;
   buffers = λ j d below. elim (same_or_not j k) [
     | inl e ↦ subst (λ i. (slice_index_or (slice_set v.locals k y) i d).buffer.capacity ≡ w.top.buffer) (sym e) (ap (λ (x : Local). x.buffer.capacity) (get_or-set_same v.locals k y d (subst (λ n. k < n) (sym z.locals) low)) ∙ cap)
     | inr o ↦ ap (λ (x : Local). x.buffer.capacity) (get_or-set_other v.locals k j y d o) ∙ z.buffers j d below
+  ];
+  fronts = λ j d below. elim (same_or_not j k) [
+    | inl e ↦ subst (λ i. HasFront w (slice_index_or (slice_set v.locals k y) i d)) (sym e) (subst (HasFront w) (sym (get_or-set_same v.locals k y d (subst (λ n. k < n) (sym z.locals) low))) found)
+    | inr o ↦ subst (HasFront w) (sym (get_or-set_other v.locals k j y d o)) (z.fronts j d below)
   ];
   bus_harts = z.bus_harts;
   l1 = z.l1;
@@ -86,6 +92,10 @@ sized_local w c v k y low z cap = record {
 -- the capacity of the buffer of the hart that was read
 pub capacity_of : (w : Config) (c : ℕ) (v : PartsView) (k : ℕ) (x : Local) → k < w.top.harts → AreSized w c v → x ≡ slice_index_or v.locals k x → x.buffer.capacity ≡ w.top.buffer
 capacity_of w c v k x low z is = ap (λ (y : Local). y.buffer.capacity) is ∙ z.buffers k x low
+
+-- the next instruction that was found for the hart that was read
+pub front_of : (w : Config) (c k : ℕ) (v : PartsView) (x : Local) → k < w.top.harts → AreSized w c v → x ≡ slice_index_or v.locals k x → HasFront w x
+front_of w c k v x low z is = subst (HasFront w) (sym is) (z.fronts k x low)
 
 -- what the hart of an event did
 abbrev pub effect : Need → HartState → HartEffect
@@ -125,6 +135,6 @@ plain_step w c k h pc need v z p r e low sized n s =
         retires = part_does w c k h 0 need r.local r.core (p.harts (hart_at w c k)) p e low refl hart.core (r.does need needs);
         pc_is = r.pc_is ∙ sym (ap (λ i. (p.harts i).core.pc) e ∙ ap (λ (y : HartState). y.pc) hart.core);
       };
-      shows = subst (λ y. Shows w c y (retire h (effect need r.core) p)) (sym r.new_is) (subst (λ i. Shows w c (changed_local v k (record r.local { core = r.core })) (retire i (effect need r.core) p)) (sym e)
-          (shows_change w c v p k (record r.local { core = r.core }) (record (p.harts (hart_at w c k)) { core = r.core }) low sized.locals s (record { core = refl; reserved = hart.reserved; buffer = hart.buffer; asked = hart.asked; l1 = hart.l1 })));
+      shows = subst (λ y. Shows w c y (retire h (effect need r.core) p)) (sym r.new_is) (subst (λ i. Shows w c (changed_local v k (record r.local { core = r.core; front = r.front })) (retire i (effect need r.core) p)) (sym e)
+          (shows_change w c v p k (record r.local { core = r.core; front = r.front }) (record (p.harts (hart_at w c k)) { core = r.core }) low sized.locals s (record { core = refl; reserved = hart.reserved; buffer = hart.buffer; asked = hart.asked; l1 = hart.l1 })));
     }

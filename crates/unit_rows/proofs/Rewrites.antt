@@ -11,7 +11,7 @@ use Rattle.dash_model.specs.Part.{Part}
 use Rattle.dash_model.specs.HartRows.{acts}
 use Rattle.dash_model.specs.Acts.{Commit as Commits, act_row, commit_copy, owe}
 use Rattle.unit_rows.specs.declared.parts.Local.{Local}
-use Rattle.unit_rows.specs.Shown.{PartsView, hart_at, copy_by, acks_by, Shows, AreSized}
+use Rattle.unit_rows.specs.Shown.{PartsView, hart_at, copy_by, acks_by, HasFront, Shows, AreSized}
 use Rattle.unit_rows.proofs.Harts.{with_local}
 use Rattle.unit_rows.proofs.Lines.{shows_line}
 use Rattle.unit_rows.proofs.Swept.{none_leave, harts_stay}
@@ -40,7 +40,7 @@ line_shown w c k v p y l next acks low sized map owner owed others shows =
     (ap (owe (hart_at w c k)) (shows.acks l) ∙ owed) others refl)
 
 -- and the sizes are those of before
-pub sized_after : (w : Config) (c k : ℕ) (v : PartsView) (x y : Local) (l : ℕ) (next : Line) (acks : TableView) → k < w.top.harts → AreSized w c v → x ≡ slice_index_or v.locals k x → y.buffer.capacity ≡ x.buffer.capacity
+pub sized_after : (w : Config) (c k : ℕ) (v : PartsView) (x y : Local) (l : ℕ) (next : Line) (acks : TableView) → k < w.top.harts → AreSized w c v → x ≡ slice_index_or v.locals k x → y.buffer.capacity ≡ x.buffer.capacity → (HasFront w x → HasFront w y)
     → acks.capacity ≡ v.acks.capacity → ((q : ℕ) (e : Counted) → entry_at acks q ≡ Some e → q < line_count w.top) → AreSized w c (after v k y l next acks)
-sized_after w c k v x y l next acks low sized here same capacity entries =
-    sized_line w c v (slice_set v.locals k y) nobody l (rewritten next (holding_at v.bus l)) v.slots acks sized (set_sizes w v.locals k y x (subst (λ n. k < n) (sym sized.locals) low) here same) refl refl sized.slots_in_range capacity entries
+sized_after w c k v x y l next acks low sized here same finds capacity entries =
+    sized_line w c v (slice_set v.locals k y) nobody l (rewritten next (holding_at v.bus l)) v.slots acks sized (set_sizes w v.locals k y x (subst (λ n. k < n) (sym sized.locals) low) here same finds) refl refl sized.slots_in_range capacity entries

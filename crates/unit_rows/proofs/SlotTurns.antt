@@ -49,6 +49,7 @@ pub sized_slots : (w : Config) (c : ℕ) (v : PartsView) (n : ℕ) (o : Option R
 sized_slots w c v n o acks low z range capacity entries = record {
   locals = z.locals;
   buffers = z.buffers;
+  fronts = z.fronts;
   bus_harts = z.bus_harts;
   l1 = z.l1;
   l2 = z.l2;

@@ -10,11 +10,12 @@ use Rattle.directory.specs.Opening as home
 use Rattle.queue_lock.specs.Steps as locks
 use Rattle.dash_model.specs.Config.{Config}
 use Rattle.unit_rows.specs.declared.parts.Local.{Local}
-use Rattle.unit_rows.specs.Shown.{PartsView, hart_at}
+use Rattle.unit_rows.specs.Shown.{PartsView, hart_at, HasFront}
 
 -- a hart at the start
 pub record IsOpeningLocal (w : Config) (c k : ℕ) (x : Local) : Type 0 where
   pub core : x.core ≡ opening_hart w.image w.top (hart_at w c k)
+  pub front : HasFront w x
   pub reserved : x.reserved ≡ None
   pub buffer : x.buffer ≡ buffer [] w.top.buffer
   pub asked : x.asked ≡ false

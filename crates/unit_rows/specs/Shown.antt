@@ -2,6 +2,7 @@
 use Rattle.std.specs.Prelude.{◌≡◌, ℕ, ◌+◌, ◌-◌, ◌*◌, ◌<◌, ◌%◌, Bool, true, cond, Option, Some, None, List, length, map, slice_index_or}
 use Rattle.dash_base.specs.declared.id.WordAddr.{WordAddr}
 use Rattle.dash_base.specs.Places.{line_count}
+use Rattle.hart_core.specs.Meaning.{IsFront}
 use Rattle.snoop_bus.specs.Holding.{Holding, has_hart}
 use Rattle.snoop_bus.specs.View.{BusView, holding_at, in_hart_l1, harts as bus_harts}
 use Rattle.remote_cache.specs.View.{SlotsView, slot_at, slot_of, count as slot_count}
@@ -123,10 +124,15 @@ pub record Shows (w : Config) (c : ℕ) (v : PartsView) (p : Part) : Type 0 wher
   pub homes : (l : ℕ) → is_home v.home l ≡ true → p.homes l ≡ home_by w (kept_at v.home l)
   pub locks : (i : ℕ) → is_own v.locks i ≡ true → p.locks i ≡ lock_by (lock_at v.locks i)
 
--- the parts have the sizes of the topology, and slots and acknowledgements are of its harts and lines
+-- the next instruction that was found for a hart is its next instruction
+abbrev pub HasFront : Config → Local → Type 0
+HasFront w x = IsFront w.image w.top x.core x.front
+
+-- the parts have the sizes of the topology, slots and acknowledgements are of its harts and lines, and each hart's next instruction was found
 pub record AreSized (w : Config) (c : ℕ) (v : PartsView) : Type 0 where
   pub locals : length v.locals ≡ w.top.harts
   pub buffers : (k : ℕ) (d : Local) → k < w.top.harts → (slice_index_or v.locals k d).buffer.capacity ≡ w.top.buffer
+  pub fronts : (k : ℕ) (d : Local) → k < w.top.harts → HasFront w (slice_index_or v.locals k d)
   pub bus_harts : bus_harts v.bus ≡ w.top.harts
   pub l1 : v.bus.l1_lines ≡ w.top.l1
   pub l2 : v.bus.l2_lines ≡ w.top.l2

@@ -114,7 +114,9 @@ fn rmw(
     let next = written(site, word, access.mask, value, &copy);
     let line = site.topology.line_of(word);
     let local = &mut parts.locals[hart as usize];
-    local.core.finish(&site.image, &site.topology, answer);
+    local
+        .core
+        .advance(&site.image, &site.topology, &mut local.front, answer);
     local.reserved = reserved_after(op, local.reserved);
     parts.bus.commit(hart, line, next);
     let seen = Seen::Line(copy.version);

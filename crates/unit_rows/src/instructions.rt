@@ -24,9 +24,11 @@ pub fn retire(site: &Site, parts: &mut Parts, hart: u32) -> u32
     ensures retired { Retired (config site.now) (shown parts.old) (shown parts.new) hart 0 result }
     ensures sized { AreSized (config site.now) site.now.cluster.0 (shown parts.new) }
 {
-    let core = &mut parts.locals[hart as usize].core;
-    let pc = core.pc();
-    core.finish(&site.image, &site.topology, 0);
+    let local = &mut parts.locals[hart as usize];
+    let pc = local.core.pc();
+    local
+        .core
+        .advance(&site.image, &site.topology, &mut local.front, 0);
     pc
 }
 

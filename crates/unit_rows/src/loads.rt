@@ -107,11 +107,13 @@ fn load_stored(
         labels,
         reserve: false,
     };
-    let retired = parts.locals[hart as usize].core.retired();
-    let access = offer(site.hart_id(hart), retired + 1, &need, value, false)?;
+    let instruction = parts.locals[hart as usize].core.retired() + 1;
+    let access = offer(site.hart_id(hart), instruction, &need, value, false)?;
     let local = &mut parts.locals[hart as usize];
     let answer = merge(0, mask, value);
-    local.core.finish(&site.image, &site.topology, answer);
+    local
+        .core
+        .advance(&site.image, &site.topology, &mut local.front, answer);
     let seen = Seen::Own(number);
     Some(Kind::Load {
         access: Access { seen, ..access },
@@ -153,7 +155,9 @@ fn load_held(
     let access = offer(site.hart_id(hart), number, &need, content, false)?;
     let answer = merge(0, mask, content);
     let local = &mut parts.locals[hart as usize];
-    local.core.finish(&site.image, &site.topology, answer);
+    local
+        .core
+        .advance(&site.image, &site.topology, &mut local.front, answer);
     local.reserved = reserved_after(reserve, word, local.reserved);
     let seen = Seen::Line(copy.version);
     Some(Kind::Load {

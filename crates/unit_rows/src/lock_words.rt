@@ -91,7 +91,9 @@ pub fn answer(site: &Site, parts: &mut Parts, hart: HartId, answer: u32)
         return;
     }
     let local = &mut parts.locals[number as usize];
-    local.core.finish(&site.image, &site.topology, answer);
+    local
+        .core
+        .advance(&site.image, &site.topology, &mut local.front, answer);
     local.asked = false;
 }
 

@@ -21,8 +21,7 @@ pub fn needed_copy(site: &Site, parts: &Parts, hart: u32) -> Option<LineId>
     ensures inside { IfSome result (λ line. line.0 < line_count site.now.topology) }
 {
     let local = &parts.locals[hart as usize];
-    let need = local.core.next(&site.image, &site.topology);
-    let line = load_line(site, &local.buffer, &need)?;
+    let line = load_line(site, &local.buffer, &local.front.need)?;
     if holds(&parts.bus, hart, line) {
         return None;
     }
@@ -39,8 +38,7 @@ pub fn needed_write(site: &Site, parts: &Parts, hart: u32) -> Option<LineId>
 {
     parts.bus.keeps_one_map();
     let local = &parts.locals[hart as usize];
-    let need = local.core.next(&site.image, &site.topology);
-    let line = write_line(site, local.reserved, &need)?;
+    let line = write_line(site, local.reserved, &local.front.need)?;
     if owns_alone(&parts.bus, hart, line) {
         return None;
     }

@@ -48,8 +48,11 @@ fn opening_local(alloc: Global, site: &Site, hart: u32) -> Result<Local, OutOfMe
     requires { hart < site.now.topology.harts }
     ensures { IfOk result (λ local. IsOpeningLocal (config site.now) site.now.cluster.0 hart local) }
 {
+    let core = Hart::new(&site.image, &site.topology, site.hart_id(hart));
+    let front = core.front(&site.image, &site.topology);
     Ok(Local {
-        core: Hart::new(&site.image, &site.topology, site.hart_id(hart)),
+        core,
+        front,
         reserved: None,
         buffer: Buffer::new(alloc, site.topology.buffer)?,
         asked: false,

@@ -59,7 +59,9 @@ pub fn store(
     };
     let local = &mut parts.locals[hart as usize];
     let _ = local.buffer.try_put(entry);
-    local.core.finish(&site.image, &site.topology, 0);
+    local
+        .core
+        .advance(&site.image, &site.topology, &mut local.front, 0);
     Some(Kind::Store { access })
 }
 
@@ -91,7 +93,9 @@ pub fn sc_fail(
     };
     let access = offer(site.hart_id(hart), number, &need, 0, false)?;
     let local = &mut parts.locals[hart as usize];
-    local.core.finish(&site.image, &site.topology, 1);
+    local
+        .core
+        .advance(&site.image, &site.topology, &mut local.front, 1);
     local.reserved = None;
     Some(Kind::ScFail { access })
 }

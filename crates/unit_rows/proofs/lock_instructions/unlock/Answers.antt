@@ -2,7 +2,7 @@ use Rattle.std.proofs.Common.{◌≡◌, ◌+◌, ◌<◌, sym, ap, ◌∙◌, s
 use Rattle.fence_release.specs.Conditions.{is_drained}
 use Rattle.unit_rows.specs.declared.parts.Local.{Local}
 use Rattle.unit_rows.specs.Shown.{config, shown}
-use Rattle.unit_rows.proofs.Retiring.{hart_number, same_local, sized_local, capacity_of}
+use Rattle.unit_rows.proofs.Retiring.{hart_number, same_local, sized_local, capacity_of, front_of}
 use Rattle.unit_rows.proofs.LockSends.{does_unlock}
 use Rattle.unit_rows.proofs.lock_instructions.unlock.Goals as goal
 
@@ -20,3 +20,4 @@ pub returns-clause-sized : goal.returns-clause-sized
 returns-clause-sized c =
     sized_local (config c.args.site.now) c.args.site.now.cluster.0 (shown c.args.parts.now) c.args.hart _ c.requires.hart c.requires.sized
     (capacity_of (config c.args.site.now) c.args.site.now.cluster.0 (shown c.args.parts.now) c.args.hart c.index_mut.result.now c.requires.hart c.requires.sized c.index_mut.ensures.value)
+    (front_of (config c.args.site.now) c.args.site.now.cluster.0 c.args.hart (shown c.args.parts.now) c.index_mut.result.now c.requires.hart c.requires.sized c.index_mut.ensures.value)
