@@ -11,7 +11,7 @@ use Rattle.dash_base.specs.declared.need.Need.TheVariants as needed
 use Rattle.dash_event.specs.declared.event.Kind.{Kind}
 use Rattle.dash_msg.specs.declared.parcel.Sent.{Sent}
 use Rattle.hart_core.specs.HartState.{can_go_on}
-use Rattle.hart_core.specs.Meaning.{IsNext}
+use Rattle.hart_core.proofs.LawsOffered.{front_rests}
 use Rattle.remote_cache.specs.View.{IsOnePerLine}
 use Rattle.snoop_bus.specs.View.{IsOneMap}
 use Rattle.dash_model.specs.Config.{Config}
@@ -24,7 +24,7 @@ use Rattle.unit_rows.specs.Rows.{DoesChoice, Can, Cannot}
 use Rattle.unit_rows.specs.Shown.{PartsView, AreSized}
 use Rattle.unit_rows.specs.StepFits.{FenceFits, LoadFits, StoreFits, EndsAs, AskFits, UnlockFits}
 use Rattle.unit_rows.specs.Steps.{HartNeeds}
-use Rattle.unit_rows.proofs.LawsOffered.{can_alu, can_put, can_stop, can_fence, can_hint, can_load, can_store, can_atomic, can_lock, can_unlock, needs_now}
+use Rattle.unit_rows.proofs.LawsOffered.{can_alu, can_put, can_stop, can_fence, can_hint, can_load, can_store, can_atomic, can_lock, can_unlock, front_of, needs_now, rest_cannot}
 use Rattle.cluster_unit.specs.Acting.{unsent, sending}
 
 -- which source a load has, and what an atomic operation does
@@ -40,83 +40,89 @@ not_one : {A : Type 0} (o : Option A) (P : Type 0) → is_some o ≡ false → I
 not_one None P e s = s
 not_one (Some x) P e s = absurd (cc)
 
-module _ (w : Config) (c k : ℕ) (v : PartsView) (x : Local) (need : Need) (low : k < w.top.harts) (sized : AreSized w c v) (is : x ≡ slice_index_or v.locals k x) (rest : (need ≡ needed.Rest) ↔ (can_go_on w.top x.core ≡ false)) (next : IsNext w.image w.top x.core need) where
-  pub needing : (other : Need) → need ≡ other → other ≢ needed.Rest → HartNeeds w v k other
-  needing other e apart = subst (HartNeeds w v k) e (needs_now w k need v x (subst (λ n. k < n) (sym sized.locals) low) is rest (λ r. apart (sym e ∙ r)) next)
+module _ (w : Config) (c k : ℕ) (v : PartsView) (x : Local) (low : k < w.top.harts) (sized : AreSized w c v) (is : x ≡ slice_index_or v.locals k x) where
+  rest : (x.front.need ≡ needed.Rest) ↔ (can_go_on w.top x.core ≡ false)
+  rest = front_rests w.image w.top x.core x.front (front_of w c k v x low sized is)
 
-  pub alu_needed : need ≡ needed.Alu → HartNeeds w v k needed.Alu
+  pub rest_no : x.front.need ≡ needed.Rest → Cannot w c v (Step k)
+  rest_no e = rest_cannot w c k x.front.need v x low is rest e
+
+  pub needing : (other : Need) → x.front.need ≡ other → other ≢ needed.Rest → HartNeeds w v k other
+  needing other e apart = subst (HartNeeds w v k) e (needs_now w k x.front.need v x (subst (λ n. k < n) (sym sized.locals) low) is rest (λ r. apart (sym e ∙ r)) (front_of w c k v x low sized is).next)
+
+  pub alu_needed : x.front.need ≡ needed.Alu → HartNeeds w v k needed.Alu
   alu_needed e = needing needed.Alu e (λ r. absurd (cc))
 
-  pub fence_needed : {waits : Bool} → need ≡ needed.Fence waits → HartNeeds w v k (needed.Fence waits)
+  pub fence_needed : {waits : Bool} → x.front.need ≡ needed.Fence waits → HartNeeds w v k (needed.Fence waits)
   fence_needed e = needing _ e (λ r. absurd (cc))
 
-  pub hint_needed : {kinds : HintKind} {address : ℕ} → need ≡ needed.Hint kinds address → HartNeeds w v k (needed.Hint kinds address)
+  pub hint_needed : {kinds : HintKind} {address : ℕ} → x.front.need ≡ needed.Hint kinds address → HartNeeds w v k (needed.Hint kinds address)
   hint_needed e = needing _ e (λ r. absurd (cc))
 
-  pub put_needed : {byte : ℕ} → need ≡ needed.Put byte → HartNeeds w v k (needed.Put byte)
+  pub put_needed : {byte : ℕ} → x.front.need ≡ needed.Put byte → HartNeeds w v k (needed.Put byte)
   put_needed e = needing _ e (λ r. absurd (cc))
 
-  pub stop_needed : {end : End} → need ≡ needed.Stop end → HartNeeds w v k (needed.Stop end)
+  pub stop_needed : {end : End} → x.front.need ≡ needed.Stop end → HartNeeds w v k (needed.Stop end)
   stop_needed e = needing _ e (λ r. absurd (cc))
 
-  pub load_needed : {word : WordAddr} {mask : ℕ} {labels : Labels} {reserve : Bool} → need ≡ needed.Load word mask labels reserve → HartNeeds w v k (needed.Load word mask labels reserve)
+  pub load_needed : {word : WordAddr} {mask : ℕ} {labels : Labels} {reserve : Bool} → x.front.need ≡ needed.Load word mask labels reserve → HartNeeds w v k (needed.Load word mask labels reserve)
   load_needed e = needing _ e (λ r. absurd (cc))
 
-  pub store_needed : {word : WordAddr} {mask value : ℕ} → need ≡ needed.Store word mask value → HartNeeds w v k (needed.Store word mask value)
+  pub store_needed : {word : WordAddr} {mask value : ℕ} → x.front.need ≡ needed.Store word mask value → HartNeeds w v k (needed.Store word mask value)
   store_needed e = needing _ e (λ r. absurd (cc))
 
-  pub atomic_needed : {word : WordAddr} {o : AmoOp} {operand : ℕ} {labels : Labels} → need ≡ needed.Rmw word o operand labels → HartNeeds w v k (needed.Rmw word o operand labels)
+  pub atomic_needed : {word : WordAddr} {o : AmoOp} {operand : ℕ} {labels : Labels} → x.front.need ≡ needed.Rmw word o operand labels → HartNeeds w v k (needed.Rmw word o operand labels)
   atomic_needed e = needing _ e (λ r. absurd (cc))
 
-  pub lock_needed : {word : WordAddr} {value : ℕ} → need ≡ needed.Ask word value → HartNeeds w v k (needed.Ask word value)
+  pub lock_needed : {word : WordAddr} {value : ℕ} → x.front.need ≡ needed.Ask word value → HartNeeds w v k (needed.Ask word value)
   lock_needed e = needing _ e (λ r. absurd (cc))
 
-  pub unlock_needed : {word : WordAddr} → need ≡ needed.Unlock word → HartNeeds w v k (needed.Unlock word)
+  pub unlock_needed : {word : WordAddr} → x.front.need ≡ needed.Unlock word → HartNeeds w v k (needed.Unlock word)
   unlock_needed e = needing _ e (λ r. absurd (cc))
 
-  pub alu_yes : need ≡ needed.Alu → Can w c v (Step k)
+  pub alu_yes : x.front.need ≡ needed.Alu → Can w c v (Step k)
   alu_yes e = can_alu w c k v low sized x is (alu_needed e)
 
-  pub fence_yes : {waits : Bool} → need ≡ needed.Fence waits → FenceFits v k waits → Can w c v (Step k)
+  pub fence_yes : {waits : Bool} → x.front.need ≡ needed.Fence waits → FenceFits v k waits → Can w c v (Step k)
   fence_yes e f = can_fence w c k v low sized _ f (fence_needed e)
 
-  pub hint_yes : {kinds : HintKind} {address : ℕ} → need ≡ needed.Hint kinds address → IsOnePerLine v.slots.slots → Can w c v (Step k)
+  pub hint_yes : {kinds : HintKind} {address : ℕ} → x.front.need ≡ needed.Hint kinds address → IsOnePerLine v.slots.slots → Can w c v (Step k)
   hint_yes e one = can_hint w c k v low sized x _ _ is (hint_needed e) one
 
-  pub put_yes : {byte : ℕ} → need ≡ needed.Put byte → Can w c v (Step k)
+  pub put_yes : {byte : ℕ} → x.front.need ≡ needed.Put byte → Can w c v (Step k)
   put_yes e = can_put w c k v low sized x _ is (put_needed e)
 
-  pub stop_yes : {end : End} → need ≡ needed.Stop end → Can w c v (Step k)
+  pub stop_yes : {end : End} → x.front.need ≡ needed.Stop end → Can w c v (Step k)
   stop_yes e = can_stop w c k v low sized x _ is (stop_needed e)
 
-  pub load_yes : {word : WordAddr} {mask : ℕ} {labels : Labels} {reserve : Bool} (o : Option Source) → need ≡ needed.Load word mask labels reserve → is_some o ≡ true → IfSome o (λ source. LoadFits w v k word mask reserve source) → Can w c v (Step k)
+  pub load_yes : {word : WordAddr} {mask : ℕ} {labels : Labels} {reserve : Bool} (o : Option Source) → x.front.need ≡ needed.Load word mask labels reserve → is_some o ≡ true → IfSome o (λ source. LoadFits w v k word mask reserve source) → Can w c v (Step k)
   load_yes {word} {mask} {labels} {reserve} o e some fits = let f = which o (λ source. LoadFits w v k word mask reserve source) some fits in can_load w c k v low sized word mask labels reserve f.one f.so (load_needed e)
 
-  pub load_no : {word : WordAddr} {mask : ℕ} {labels : Labels} {reserve : Bool} (o : Option Source) → need ≡ needed.Load word mask labels reserve → is_some o ≡ false → IfNone o ((labels : Labels) → HartNeeds w v k (needed.Load word mask labels reserve) → Cannot w c v (Step k)) → Cannot w c v (Step k)
+  pub load_no : {word : WordAddr} {mask : ℕ} {labels : Labels} {reserve : Bool} (o : Option Source) → x.front.need ≡ needed.Load word mask labels reserve → is_some o ≡ false → IfNone o ((labels : Labels) → HartNeeds w v k (needed.Load word mask labels reserve) → Cannot w c v (Step k)) → Cannot w c v (Step k)
   load_no {word} {mask} {labels} {reserve} o e none idle = not_one o ((labels : Labels) → HartNeeds w v k (needed.Load word mask labels reserve) → Cannot w c v (Step k)) none idle labels (load_needed e)
 
-  pub store_yes : {word : WordAddr} {mask value : ℕ} → need ≡ needed.Store word mask value → StoreFits w v k → Can w c v (Step k)
+  pub store_yes : {word : WordAddr} {mask value : ℕ} → x.front.need ≡ needed.Store word mask value → StoreFits w v k → Can w c v (Step k)
   store_yes e f = can_store w c k v low sized _ _ _ f (store_needed e)
 
-  pub store_no : {word : WordAddr} {mask value : ℕ} → need ≡ needed.Store word mask value → ((word : WordAddr) (mask value : ℕ) → HartNeeds w v k (needed.Store word mask value) → Cannot w c v (Step k)) → Cannot w c v (Step k)
+  pub store_no : {word : WordAddr} {mask value : ℕ} → x.front.need ≡ needed.Store word mask value → ((word : WordAddr) (mask value : ℕ) → HartNeeds w v k (needed.Store word mask value) → Cannot w c v (Step k)) → Cannot w c v (Step k)
   store_no e idle = idle _ _ _ (store_needed e)
 
-  pub atomic_yes : {word : WordAddr} {o : AmoOp} {operand : ℕ} {labels : Labels} (outcome : Option Outcome) → need ≡ needed.Rmw word o operand labels → is_some outcome ≡ true → IfSome outcome (λ y. EndsAs w v k word o labels y) → IsOneMap v.bus → Can w c v (Step k)
+  pub atomic_yes : {word : WordAddr} {o : AmoOp} {operand : ℕ} {labels : Labels} (outcome : Option Outcome) → x.front.need ≡ needed.Rmw word o operand labels → is_some outcome ≡ true → IfSome outcome (λ y. EndsAs w v k word o labels y) → IsOneMap v.bus → Can w c v (Step k)
   atomic_yes {word} {o} {operand} {labels} outcome e some fits map = let f = which outcome (λ y. EndsAs w v k word o labels y) some fits in can_atomic w c k v low sized x word o operand labels f.one is f.so (atomic_needed e) map
 
-  pub atomic_no : {word : WordAddr} {o : AmoOp} {operand : ℕ} {labels : Labels} (outcome : Option Outcome) → need ≡ needed.Rmw word o operand labels → is_some outcome ≡ false → IfNone outcome ((operand : ℕ) → HartNeeds w v k (needed.Rmw word o operand labels) → Cannot w c v (Step k)) → Cannot w c v (Step k)
+  pub atomic_no : {word : WordAddr} {o : AmoOp} {operand : ℕ} {labels : Labels} (outcome : Option Outcome) → x.front.need ≡ needed.Rmw word o operand labels → is_some outcome ≡ false → IfNone outcome ((operand : ℕ) → HartNeeds w v k (needed.Rmw word o operand labels) → Cannot w c v (Step k)) → Cannot w c v (Step k)
   atomic_no {word} {o} {operand} {labels} outcome e none idle = not_one outcome ((operand : ℕ) → HartNeeds w v k (needed.Rmw word o operand labels) → Cannot w c v (Step k)) none idle operand (atomic_needed e)
 
-  pub lock_yes : {word : WordAddr} {value : ℕ} → need ≡ needed.Ask word value → AskFits v k → Can w c v (Step k)
+  pub lock_yes : {word : WordAddr} {value : ℕ} → x.front.need ≡ needed.Ask word value → AskFits v k → Can w c v (Step k)
   lock_yes e f = can_lock w c k v low sized _ _ f (lock_needed e)
 
-  pub lock_no : {word : WordAddr} {value : ℕ} → need ≡ needed.Ask word value → ((word : WordAddr) (value : ℕ) → HartNeeds w v k (needed.Ask word value) → Cannot w c v (Step k)) → Cannot w c v (Step k)
+  pub lock_no : {word : WordAddr} {value : ℕ} → x.front.need ≡ needed.Ask word value → ((word : WordAddr) (value : ℕ) → HartNeeds w v k (needed.Ask word value) → Cannot w c v (Step k)) → Cannot w c v (Step k)
   lock_no e idle = idle _ _ (lock_needed e)
 
-  pub unlock_yes : {word : WordAddr} → need ≡ needed.Unlock word → UnlockFits v k → Can w c v (Step k)
+  pub unlock_yes : {word : WordAddr} → x.front.need ≡ needed.Unlock word → UnlockFits v k → Can w c v (Step k)
   unlock_yes e f = can_unlock w c k v low sized _ f (unlock_needed e)
 
-  pub unlock_no : {word : WordAddr} → need ≡ needed.Unlock word → ((word : WordAddr) → HartNeeds w v k (needed.Unlock word) → Cannot w c v (Step k)) → Cannot w c v (Step k)
+  pub unlock_no : {word : WordAddr} → x.front.need ≡ needed.Unlock word → ((word : WordAddr) → HartNeeds w v k (needed.Unlock word) → Cannot w c v (Step k)) → Cannot w c v (Step k)
   unlock_no e idle = idle _ (unlock_needed e)
 
 -- what a row that sends nothing answers, and one that sends

@@ -23,10 +23,8 @@ pub fn fits_step(site: &Site, parts: &Parts, hart: u32) -> bool
 {
     parts.bus.keeps_one_map();
     parts.slots.keeps_one_slot_a_line();
-    let need = parts.locals[hart as usize]
-        .core
-        .next(&site.image, &site.topology);
-    match need {
+    let local = &parts.locals[hart as usize];
+    match local.front.need {
         Need::Rest => false,
         Need::Alu => true,
         Need::Fence { waits } => fits_fence(site, parts, hart, waits),
@@ -60,9 +58,8 @@ pub fn step(site: &Site, parts: &mut Parts, hart: u32) -> Option<(Kind, Option<S
     ensures unchanged { IfNone result (shown parts.new ≡ shown parts.old) }
     ensures sized { AreSized (config site.now) site.now.cluster.0 (shown parts.new) }
 {
-    let need = parts.locals[hart as usize]
-        .core
-        .next(&site.image, &site.topology);
+    let local = &parts.locals[hart as usize];
+    let need = local.front.need;
     match need {
         Need::Rest => None,
         Need::Alu => Some((alu(site, parts, hart), None)),

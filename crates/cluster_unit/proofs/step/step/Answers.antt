@@ -2,42 +2,41 @@ use Rattle.std.proofs.Common.{◌≡◌}
 use Rattle.unit_rows.specs.declared.choice.Choice.TheVariants.{Step}
 use Rattle.unit_rows.specs.Rows.{Cannot}
 use Rattle.unit_rows.specs.Shown.{config, shown}
-use Rattle.unit_rows.proofs.LawsOffered.{rest_cannot}
-use Rattle.cluster_unit.proofs.Fitting.{alu_needed, fence_needed, hint_needed, put_needed, stop_needed, load_needed, store_needed, atomic_needed, lock_needed, unlock_needed, unsent_did, unsent_idle, sending_did, sending_idle}
+use Rattle.cluster_unit.proofs.Fitting.{rest_no, alu_needed, fence_needed, hint_needed, put_needed, stop_needed, load_needed, store_needed, atomic_needed, lock_needed, unlock_needed, unsent_did, unsent_idle, sending_did, sending_idle}
 use Rattle.cluster_unit.proofs.step.step.Goals as goal
 
 pub returns-in-Rest-clause-idle : goal.returns-in-Rest-clause-idle
-returns-in-Rest-clause-idle c = rest_cannot (config c.args.site.now) c.args.site.now.cluster.0 c.args.hart c.next-need.result (shown c.args.parts.now) c.index.result.now c.requires.hart c.index.ensures c.next-need.ensures.rest c.in-Rest.is
+returns-in-Rest-clause-idle c = rest_no (config c.args.site.now) c.args.site.now.cluster.0 c.args.hart (shown c.args.parts.now) c.index-local.result.now c.requires.hart c.requires.sized c.index-local.ensures c.in-Rest.is
 
 pub alu-requires-clause-need : goal.alu-requires-clause-need
-alu-requires-clause-need c = alu_needed (config c.args.site.now) c.args.site.now.cluster.0 c.args.hart (shown c.args.parts.now) c.index.result.now c.next-need.result c.requires.hart c.requires.sized c.index.ensures c.next-need.ensures.rest c.next-need.ensures.next c.in-Alu.is
+alu-requires-clause-need c = alu_needed (config c.args.site.now) c.args.site.now.cluster.0 c.args.hart (shown c.args.parts.now) c.index-local.result.now c.requires.hart c.requires.sized c.index-local.ensures c.in-Alu.is
 
 pub fence-requires-clause-need : goal.fence-requires-clause-need
-fence-requires-clause-need c = fence_needed (config c.args.site.now) c.args.site.now.cluster.0 c.args.hart (shown c.args.parts.now) c.index.result.now c.next-need.result c.requires.hart c.requires.sized c.index.ensures c.next-need.ensures.rest c.next-need.ensures.next c.in-Fence.is
+fence-requires-clause-need c = fence_needed (config c.args.site.now) c.args.site.now.cluster.0 c.args.hart (shown c.args.parts.now) c.index-local.result.now c.requires.hart c.requires.sized c.index-local.ensures c.in-Fence.is
 
 pub hint-requires-clause-need : goal.hint-requires-clause-need
-hint-requires-clause-need c = hint_needed (config c.args.site.now) c.args.site.now.cluster.0 c.args.hart (shown c.args.parts.now) c.index.result.now c.next-need.result c.requires.hart c.requires.sized c.index.ensures c.next-need.ensures.rest c.next-need.ensures.next c.in-Hint.is
+hint-requires-clause-need c = hint_needed (config c.args.site.now) c.args.site.now.cluster.0 c.args.hart (shown c.args.parts.now) c.index-local.result.now c.requires.hart c.requires.sized c.index-local.ensures c.in-Hint.is
 
 pub put-requires-clause-need : goal.put-requires-clause-need
-put-requires-clause-need c = put_needed (config c.args.site.now) c.args.site.now.cluster.0 c.args.hart (shown c.args.parts.now) c.index.result.now c.next-need.result c.requires.hart c.requires.sized c.index.ensures c.next-need.ensures.rest c.next-need.ensures.next c.in-Put.is
+put-requires-clause-need c = put_needed (config c.args.site.now) c.args.site.now.cluster.0 c.args.hart (shown c.args.parts.now) c.index-local.result.now c.requires.hart c.requires.sized c.index-local.ensures c.in-Put.is
 
 pub stop-requires-clause-need : goal.stop-requires-clause-need
-stop-requires-clause-need c = stop_needed (config c.args.site.now) c.args.site.now.cluster.0 c.args.hart (shown c.args.parts.now) c.index.result.now c.next-need.result c.requires.hart c.requires.sized c.index.ensures c.next-need.ensures.rest c.next-need.ensures.next c.in-Stop.is
+stop-requires-clause-need c = stop_needed (config c.args.site.now) c.args.site.now.cluster.0 c.args.hart (shown c.args.parts.now) c.index-local.result.now c.requires.hart c.requires.sized c.index-local.ensures c.in-Stop.is
 
 pub load-requires-clause-need : goal.load-requires-clause-need
-load-requires-clause-need c = load_needed (config c.args.site.now) c.args.site.now.cluster.0 c.args.hart (shown c.args.parts.now) c.index.result.now c.next-need.result c.requires.hart c.requires.sized c.index.ensures c.next-need.ensures.rest c.next-need.ensures.next c.in-Load.is
+load-requires-clause-need c = load_needed (config c.args.site.now) c.args.site.now.cluster.0 c.args.hart (shown c.args.parts.now) c.index-local.result.now c.requires.hart c.requires.sized c.index-local.ensures c.in-Load.is
 
 pub store-requires-clause-need : goal.store-requires-clause-need
-store-requires-clause-need c = store_needed (config c.args.site.now) c.args.site.now.cluster.0 c.args.hart (shown c.args.parts.now) c.index.result.now c.next-need.result c.requires.hart c.requires.sized c.index.ensures c.next-need.ensures.rest c.next-need.ensures.next c.in-Store.is
+store-requires-clause-need c = store_needed (config c.args.site.now) c.args.site.now.cluster.0 c.args.hart (shown c.args.parts.now) c.index-local.result.now c.requires.hart c.requires.sized c.index-local.ensures c.in-Store.is
 
 pub atomic-requires-clause-need : goal.atomic-requires-clause-need
-atomic-requires-clause-need c = atomic_needed (config c.args.site.now) c.args.site.now.cluster.0 c.args.hart (shown c.args.parts.now) c.index.result.now c.next-need.result c.requires.hart c.requires.sized c.index.ensures c.next-need.ensures.rest c.next-need.ensures.next c.in-Rmw.is
+atomic-requires-clause-need c = atomic_needed (config c.args.site.now) c.args.site.now.cluster.0 c.args.hart (shown c.args.parts.now) c.index-local.result.now c.requires.hart c.requires.sized c.index-local.ensures c.in-Rmw.is
 
 pub ask-requires-clause-need : goal.ask-requires-clause-need
-ask-requires-clause-need c = lock_needed (config c.args.site.now) c.args.site.now.cluster.0 c.args.hart (shown c.args.parts.now) c.index.result.now c.next-need.result c.requires.hart c.requires.sized c.index.ensures c.next-need.ensures.rest c.next-need.ensures.next c.in-Ask.is
+ask-requires-clause-need c = lock_needed (config c.args.site.now) c.args.site.now.cluster.0 c.args.hart (shown c.args.parts.now) c.index-local.result.now c.requires.hart c.requires.sized c.index-local.ensures c.in-Ask.is
 
 pub unlock-requires-clause-need : goal.unlock-requires-clause-need
-unlock-requires-clause-need c = unlock_needed (config c.args.site.now) c.args.site.now.cluster.0 c.args.hart (shown c.args.parts.now) c.index.result.now c.next-need.result c.requires.hart c.requires.sized c.index.ensures c.next-need.ensures.rest c.next-need.ensures.next c.in-Unlock.is
+unlock-requires-clause-need c = unlock_needed (config c.args.site.now) c.args.site.now.cluster.0 c.args.hart (shown c.args.parts.now) c.index-local.result.now c.requires.hart c.requires.sized c.index-local.ensures c.in-Unlock.is
 
 pub returns-in-Fence-clause-did : goal.returns-in-Fence-clause-did
 returns-in-Fence-clause-did c = unsent_did (config c.args.site.now) c.args.site.now.cluster.0 (Step c.args.hart) (shown c.args.parts.now) (shown c.fence.new.parts) c.fence.result c.unsent.result c.unsent.ensures c.fence.ensures.did
