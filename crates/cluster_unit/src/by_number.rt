@@ -18,6 +18,7 @@ pub enum ByNumber {
 }
 
 /// The choice of a number.
+#[inline(always)]
 fn choice(kind: ByNumber, number: u32) -> Choice
     ensures { result ≡ choice_of kind number }
 {
@@ -31,6 +32,7 @@ fn choice(kind: ByNumber, number: u32) -> Choice
 }
 
 /// Lists the enabled choices of one kind, by their numbers, of which there are `count`.
+#[inline(always)]
 pub fn list_by_number(
     site: &Site,
     parts: &Parts,

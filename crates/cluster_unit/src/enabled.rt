@@ -14,6 +14,7 @@ use unit_rows::{
 
 /// Whether a choice is enabled, other than to take a message. One whose hart, slot or lock word is out
 /// of range is not.
+#[inline(always)]
 pub fn is_enabled(site: &Site, parts: &Parts, choice: Choice) -> bool
     requires sized { AreSized (config site.now) site.now.cluster.0 (shown parts.now) }
     requires stores { StoresAreOfMemory (config site.now) (shown parts.now) }

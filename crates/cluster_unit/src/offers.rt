@@ -9,6 +9,7 @@ use crate::enabled::is_enabled;
 use unit_rows::{Choice, Parts, Site};
 
 /// Puts a choice at the end of a list where it is enabled. It takes no memory.
+#[inline(always)]
 pub fn offer(site: &Site, parts: &Parts, choice: Choice, choices: &mut Vec<Choice>)
     requires sized { AreSized (config site.now) site.now.cluster.0 (shown parts.now) }
     requires stores { StoresAreOfMemory (config site.now) (shown parts.now) }
