@@ -1,39 +1,32 @@
--- The places of an array, each of which has a line and its copy.
-use Rattle.std.specs.Prelude.{◌≡◌, ◌<◌, ℕ, ◌%◌, ◌==◌, Bool, not, ◌&&◌, List, map}
+-- The places of an array, one at each index, each of which is empty or has a line and its copy.
+use Rattle.std.specs.Prelude.{◌≡◌, ◌<◌, ℕ, ◌%◌, ◌==◌, List, [], ◌∷◌, Option, Some, None, length, slice_index_or, if◌then◌else◌}
 use Rattle.std.specs.Ordering.{nat_cmp}
-use Rattle.std.specs.FinMap.{FinMap, from_entries}
-use Rattle.std.specs.List.{IsDistinct}
+use Rattle.std.specs.FinMap.{FinMap, empty, insert}
 use Rattle.dash_base.specs.declared.line.Line.{Line}
 use Rattle.dash_base.specs.declared.id.LineId.{LineId}
 use Rattle.cache_array.specs.declared.places.Place.{Place}
 
-abbrev pub line_of : Place → LineId
-line_of p = p.line
+-- the place at the index of a line
+abbrev pub place_at : List (Option Place) → ℕ → Option Place
+place_at places line = slice_index_or places (line % length places) None
 
-abbrev pub copy_in : Place → Line
-copy_in p = p.copy
+-- the copy in a place, if that is a place of this line
+abbrev pub copy_in : ℕ → Option Place → Option Line
+copy_in line None = None
+copy_in line (Some p) = if p.line.0 == line then Some p.copy else None
 
--- whether a place is that of a line
-abbrev pub is_of : ℕ → Place → Bool
-is_of line p = p.line.0 == line
-
--- whether a place is that of another line with the same index
-abbrev pub is_other : ℕ → ℕ → Place → Bool
-is_other lines line p = not (is_of line p) && (p.line.0 % lines == line % lines)
-
--- the index of a place
-abbrev pub index_in : ℕ → Place → ℕ
-index_in lines p = p.line.0 % lines
-
-abbrev pub entry : Place → ℕ × Line
-entry p = (p.line.0, p.copy)
+-- the line of a place, if that is a place of another line than this one
+abbrev pub other_in : ℕ → Option Place → Option LineId
+other_in line None = None
+other_in line (Some p) = if p.line.0 == line then None else Some p.line
 
 -- the copy of each line that has a place
-unfoldable pub map_of : List Place → FinMap nat_cmp Line
-map_of places = from_entries (map entry places)
+unfoldable pub map_of : List (Option Place) → FinMap nat_cmp Line
+map_of [] = empty
+map_of (None ∷ places) = map_of places
+map_of (Some p ∷ places) = insert (map_of places) p.line.0 p.copy
 
--- each place has an index of its own, and as many places are reserved as there are indexes
-pub record AreDirect (lines capacity : ℕ) (places : List Place) : Type 0 where
-  pub some : 0 < lines
-  pub room : capacity ≡ lines
-  pub apart : IsDistinct (λ i j. i == j) (map (index_in lines) places)
+-- there are places, and each that is not empty stands at the index of its line
+pub record AreDirect (places : List (Option Place)) : Type 0 where
+  pub some : 0 < length places
+  pub own : (i : ℕ) (p : Place) → slice_index_or places i None ≡ Some p → p.line.0 % length places ≡ i

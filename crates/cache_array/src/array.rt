@@ -10,11 +10,10 @@ use std::marker::Model;
 /// A direct-mapped array. Contracts see the number of its indexes and a finite map from lines to
 /// copies, in which at most one line stands at each index.
 ///
-/// The copies lie unordered, and are searched from the front.
+/// There is one place at each index, so that a call looks at one place.
 #[derive(Drop)]
 pub struct Array {
-    lines: u32,
-    places: Vec<Place>,
+    places: Vec<Option<Place>>,
 }
 
 impl Model for Array {
@@ -25,11 +24,11 @@ impl Model for Array {
     ghost coded = { array_code };
 
     ghost use Rattle.cache_array.specs.Places.{map_of, AreDirect};
-    ghost use Rattle.std.specs.Prelude.{vec_capacity};
+    ghost use Rattle.std.specs.Prelude.{length};
 
-    ghost view = { λ a. record { lines = a.lines; copies = map_of a.places.items } };
+    ghost view = { λ a. record { lines = length a.places.items; copies = map_of a.places.items } };
 
-    ghost invariant = { λ a. AreDirect a.lines (vec_capacity a.places) a.places.items };
+    ghost invariant = { λ a. AreDirect a.places.items };
 }
 
 impl Array {
@@ -38,8 +37,8 @@ impl Array {
         requires { 0 < lines }
         ensures { IfOk result (λ array. array ≡ empty_array lines) }
     {
-        let places = Vec::with_capacity(alloc, lines as usize)?;
-        Ok(Array { lines, places })
+        let places = vec![in alloc; None; lines as usize]?;
+        Ok(Array { places })
     }
 
     /// The copy of a line. `None` where the line is not there.
@@ -56,15 +55,16 @@ impl Array {
         requires { HasRoom self.old line.0 }
         ensures { self.new ≡ with_copy self.old line.0 copy }
     {
-        places::remove(&mut self.places, line);
-        places::add(&mut self.places, Place { line, copy });
+        places::put(&mut self.places, line, Some(Place { line, copy }));
     }
 
     /// Drops the copy of a line, if it is there.
     pub fn clear(&mut self, line: LineId)
         ensures { self.new ≡ without_line self.old line.0 }
     {
-        places::remove(&mut self.places, line);
+        if places::copy_of(&self.places, line).is_some() {
+            places::put(&mut self.places, line, None);
+        }
     }
 
     /// The other line that stands at this line's index. `None` where there is none.
@@ -73,6 +73,6 @@ impl Array {
             (λ other. IsOther self.now line.0 other.0) }
         ensures one_per_index { IsOnePerIndex self.now }
     {
-        places::other_at(&self.places, self.lines, line)
+        places::other_at(&self.places, line)
     }
 }

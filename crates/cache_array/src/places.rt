@@ -1,50 +1,60 @@
-//! The places of an array: pairs of a line and its copy, in any order.
-ghost use Rattle.std.specs.Prelude.{◌≡◌, ◌<◌, ◌++◌, ◌∷◌, [], vec_len, vec_capacity, option_map, find, filter, not};
-ghost use Rattle.cache_array.specs.Places.{is_of, is_other, line_of, copy_in};
+//! The places of an array: one at each index, empty or with a line and its copy.
+ghost use Rattle.std.specs.Prelude.{◌≡◌, ◌<◌, ◌%◌, length, slice_set};
+ghost use Rattle.cache_array.specs.Places.{place_at, copy_in, other_in};
 
 use dash_base::{Line, LineId};
 
 /// A line and its copy.
-#[derive(Clone, Copy, Debug, PartialEq, Eq)]
+#[derive(Clone, Copy)]
 pub struct Place {
     pub line: LineId,
     pub copy: Line,
 }
 
+/// The index of a line.
+fn index_in(places: &[Option<Place>], line: LineId) -> usize
+    requires { 0 < length places.now }
+    ensures value { result ≡ line.0 % length places.now }
+    ensures within { result < length places.now }
+{
+    line.0 as usize % places.len()
+}
+
+/// The place at the index of a line.
+fn place_at(places: &[Option<Place>], line: LineId) -> Option<Place>
+    requires { 0 < length places.now }
+    ensures { result ≡ place_at places.now line.0 }
+{
+    places[index_in(places, line)]
+}
+
 /// The copy of a line.
-pub fn copy_of(places: &[Place], line: LineId) -> Option<Line>
-    ensures { result ≡ option_map copy_in (find (is_of line.0) places.now) }
+pub fn copy_of(places: &[Option<Place>], line: LineId) -> Option<Line>
+    requires { 0 < length places.now }
+    ensures { result ≡ copy_in line.0 (place_at places.now line.0) }
 {
-    places
-        .iter()
-        .find(|place| place.line == line)
-        .map(|place| place.copy)
+    match place_at(places, line) {
+        Some(place) if place.line == line => Some(place.copy),
+        _ => None,
+    }
 }
 
-/// Another line with the index of this one.
-pub fn other_at(places: &[Place], lines: u32, line: LineId) -> Option<LineId>
-    requires { 0 < lines }
-    ensures { result ≡ option_map line_of (find (is_other lines line.0) places.now) }
+/// Another line at the index of this one.
+pub fn other_at(places: &[Option<Place>], line: LineId) -> Option<LineId>
+    requires { 0 < length places.now }
+    ensures { result ≡ other_in line.0 (place_at places.now line.0) }
 {
-    places
-        .iter()
-        .find(|place| place.line != line && place.line.0 % lines == line.0 % lines)
-        .map(|place| place.line)
+    match place_at(places, line) {
+        Some(place) if place.line != line => Some(place.line),
+        _ => None,
+    }
 }
 
-/// Removes the place of a line, if there is one.
-pub fn remove(places: &mut Vec<Place>, line: LineId)
-    ensures items { places.new.items ≡ filter (λ place. not (is_of line.0 place)) places.old.items }
-    ensures capacity { vec_capacity places.new ≡ vec_capacity places.old }
+/// Makes this the place at the index of a line.
+pub fn put(places: &mut [Option<Place>], line: LineId, place: Option<Place>)
+    requires { 0 < length places.old }
+    ensures { places.new ≡ slice_set places.old (line.0 % length places.old) place }
 {
-    places.retain(|place| place.line != line);
-}
-
-/// Adds a place to those that have room for it.
-pub fn add(places: &mut Vec<Place>, place: Place)
-    requires { vec_len places.old < vec_capacity places.old }
-    ensures items { places.new.items ≡ places.old.items ++ place ∷ [] }
-    ensures capacity { vec_capacity places.new ≡ vec_capacity places.old }
-{
-    places.push_reserved(place);
+    let index = index_in(places, line);
+    places[index] = place;
 }

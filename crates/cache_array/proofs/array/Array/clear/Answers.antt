@@ -1,14 +1,15 @@
-use Rattle.std.proofs.Common.{ap, ◌∙◌}
-use Rattle.cache_array.specs.View.{ArrayView, without_line}
-use Rattle.cache_array.proofs.Held.{array_of, array_of-filter, without_direct}
+use Rattle.std.proofs.Common.{ap, sym, ◌∙◌, is_some}
+use Rattle.cache_array.proofs.Changed.{clears, stays}
 use Rattle.cache_array.proofs.array.Array.clear.Goals as goal
 
 pub invariant_of-self : goal.invariant_of-self
 invariant_of-self c =
-    rw (c.remove.ensures.items, c.remove.ensures.capacity) (without_direct _ _ _ c.args.line.0 c.self.invariant)
+    (clears c.self.inside.places _ c.self.invariant c.self.view_is c.args.line.0 _ c.deref.ensures.value _ _ (ap is_some (sym c.copy_of.ensures) ∙ sym c.is_some.ensures ∙ c.if-is_some.true) c.deref_mut.ensures.value c.put.ensures).direct
 
-pub returns : goal.returns
-returns c =
-    ap (array_of c.self.inside.lines) c.remove.ensures.items
-    ∙ array_of-filter c.self.inside.lines c.self.inside.places.items c.args.line.0
-    ∙ ap (λ (a : ArrayView). without_line a c.args.line.0) c.self.view_is
+pub returns-then-is_some : goal.returns-then-is_some
+returns-then-is_some c =
+    (clears c.self.inside.places _ c.self.invariant c.self.view_is c.args.line.0 _ c.deref.ensures.value _ _ (ap is_some (sym c.copy_of.ensures) ∙ sym c.is_some.ensures ∙ c.if-is_some.true) c.deref_mut.ensures.value c.put.ensures).array
+
+pub returns-else-is_some : goal.returns-else-is_some
+returns-else-is_some c =
+    stays c.self.inside.places _ c.self.invariant c.self.view_is c.args.line.0 _ c.deref.ensures.value _ c.copy_of.ensures (sym c.is_some.ensures ∙ c.if-is_some.false)
