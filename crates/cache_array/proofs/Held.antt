@@ -3,7 +3,7 @@ use Rattle.std.proofs.Common.{◌≡◌, ◌≢◌, ℕ, ◌%◌, true, false, c
 use Rattle.std.specs.Prelude.{◌==◌, MatchOption}
 use Rattle.std.proofs.lemmas.Bool.Decides.{nat_tests}
 use Rattle.cache_array.specs.declared.places.Place.{Place}
-use Rattle.cache_array.specs.Places.{place_at, copy_in, other_in, map_of, AreDirect}
+use Rattle.cache_array.specs.Places.{place_at, copy_in, other_in, map_of, number, AreDirect}
 use Rattle.cache_array.specs.View.{ArrayView, copy_at, has_line, HasRoom, IsOther, IsOnePerIndex}
 use Rattle.cache_array.proofs.LineMaps.{same_nat_map}
 use Rattle.cache_array.proofs.Maps.{get-map_of_at}
@@ -25,12 +25,12 @@ elsewhere n q j None own other = refl
 elsewhere n q j (Some p) own other = grind (arith, nat_tests, own p refl)
 
 -- the copy of a line is in the place at its index
-pub copy_at-array_of : (ps : List (Option Place)) → AreDirect ps → (q : ℕ) → copy_at (array_of ps) q ≡ copy_in q (place_at ps q)
+pub copy_at-array_of : (ps : List (Option Place)) → AreDirect number ps → (q : ℕ) → copy_at (array_of ps) q ≡ copy_in q (place_at ps q)
 unfolding copy_at
 copy_at-array_of ps a q = get-map_of_at ps (q % length ps) q (λ j other. elsewhere (length ps) q j (get_or ps j None) (a.own j) other)
 
 -- a line that is there has the place of its index
-held_in : (ps : List (Option Place)) → AreDirect ps → (q l : ℕ) → has_line (array_of ps) q ≡ true → q % length ps ≡ l % length ps → is_some (copy_in q (place_at ps l)) ≡ true
+held_in : (ps : List (Option Place)) → AreDirect number ps → (q l : ℕ) → has_line (array_of ps) q ≡ true → q % length ps ≡ l % length ps → is_some (copy_in q (place_at ps l)) ≡ true
 held_in ps a q l held same =
     ap (λ i. is_some (copy_in q (get_or ps i None))) (sym same) ∙ ap is_some (sym (copy_at-array_of ps a q)) ∙ held
 
@@ -39,13 +39,13 @@ one_in : (o : Option Place) (q r : ℕ) → is_some (copy_in q o) ≡ true → i
 one_in None q r x y = cc
 one_in (Some p) q r x y = grind (arith, nat_tests)
 
-pub array_of-one_per_index : (ps : List (Option Place)) → AreDirect ps → IsOnePerIndex (array_of ps)
+pub array_of-one_per_index : (ps : List (Option Place)) → AreDirect number ps → IsOnePerIndex (array_of ps)
 array_of-one_per_index ps a = record {
   one = λ line h. record { alone = λ q k same. one_in (place_at ps line) q line (held_in ps a q line k same) (held_in ps a line line h refl) };
 }
 
 -- what the place at an index says of another line there
-other_of : (ps : List (Option Place)) → AreDirect ps → (l : ℕ) (o : Option Place) → place_at ps l ≡ o → MatchOption (other_in l o) (HasRoom (array_of ps) l) (λ other. IsOther (array_of ps) l other.0)
+other_of : (ps : List (Option Place)) → AreDirect number ps → (l : ℕ) (o : Option Place) → place_at ps l ≡ o → MatchOption (other_in l o) (HasRoom (array_of ps) l) (λ other. IsOther (array_of ps) l other.0)
 other_of ps a l None is = record { alone = λ q k same. none q (ap (λ o. is_some (copy_in q o)) (sym is) ∙ held_in ps a q l k same) }
   where
     none : (q : ℕ) → false ≡ true → q ≡ l
@@ -69,5 +69,5 @@ other_of ps a l (Some x) is =
     its_own : (x.line.0 == l) ≡ true → (q : ℕ) → is_some (copy_in q (Some x)) ≡ true → q ≡ l
     its_own own q held = grind (arith, nat_tests)
 
-pub other_at_place : (ps : List (Option Place)) → AreDirect ps → (l : ℕ) → MatchOption (other_in l (place_at ps l)) (HasRoom (array_of ps) l) (λ other. IsOther (array_of ps) l other.0)
+pub other_at_place : (ps : List (Option Place)) → AreDirect number ps → (l : ℕ) → MatchOption (other_in l (place_at ps l)) (HasRoom (array_of ps) l) (λ other. IsOther (array_of ps) l other.0)
 other_at_place ps a l = other_of ps a l (place_at ps l) refl

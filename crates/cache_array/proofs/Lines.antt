@@ -3,7 +3,7 @@ use Rattle.std.proofs.Common.{◌≡◌, ℕ, true, cond, Some, None, refl, arit
 use Rattle.std.specs.Prelude.{◌==◌}
 use Rattle.std.proofs.lemmas.Bool.Decides.{nat_tests}
 use Rattle.dash_base.specs.declared.line.Line.{Line}
-use Rattle.cache_array.specs.View.{ArrayView, copy_at, has_line, empty_array, with_copy, without_line, HasRoom, IsOther, IsOnePerIndex}
+use Rattle.cache_array.specs.View.{ArrayView, copy_at, has_line, empty_array, with_copy, without_line, HasRoom, IsOnePerIndex}
 use Rattle.cache_array.proofs.LineMaps.{get-empty_nat, get-insert_nat, get-remove_nat}
 
 pub copy_at-empty_array : (lines q : ℕ) → copy_at (empty_array lines) q ≡ None
@@ -29,15 +29,6 @@ lines-with_copy a l c = refl
 pub lines-without_line : (a : ArrayView) (l : ℕ) → (without_line a l).lines ≡ a.lines
 unfolding without_line
 lines-without_line a l = refl
-
-pub ruleset array_reads = (copy_at-empty_array, copy_at-with_copy, copy_at-without_line, lines-empty_array, lines-with_copy, lines-without_line)
-
--- once the other line of its index is gone, a line has room
-pub room_without_other : (a : ArrayView) (line other : ℕ) → IsOnePerIndex a → IsOther a line other → HasRoom (without_line a other) line
-room_without_other a line other one is = record {
-  alone = λ q h same.
-      grind (arith, nat_tests, copy_at-without_line a other q, lines-without_line a other, is.index, (one.one other is.held).alone q);
-}
 
 -- one line per index stays so
 pub one_per_index-empty_array : (lines : ℕ) → IsOnePerIndex (empty_array lines)

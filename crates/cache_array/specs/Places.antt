@@ -7,8 +7,12 @@ use Rattle.dash_base.specs.declared.id.LineId.{LineId}
 use Rattle.cache_array.specs.declared.places.Place.{Place}
 
 -- the place at the index of a line
-abbrev pub place_at : List (Option Place) → ℕ → Option Place
+abbrev pub place_at : {A : Type 0} → List (Option A) → ℕ → Option A
 place_at places line = slice_index_or places (line % length places) None
+
+-- the number of the line of a place
+abbrev pub number : Place → ℕ
+number p = p.line.0
 
 -- the copy in a place, if that is a place of this line
 abbrev pub copy_in : ℕ → Option Place → Option Line
@@ -27,6 +31,6 @@ map_of (None ∷ places) = map_of places
 map_of (Some p ∷ places) = insert (map_of places) p.line.0 p.copy
 
 -- there are places, and each that is not empty stands at the index of its line
-pub record AreDirect (places : List (Option Place)) : Type 0 where
+pub record AreDirect {A : Type 0} (number : A → ℕ) (places : List (Option A)) : Type 0 where
   pub some : 0 < length places
-  pub own : (i : ℕ) (p : Place) → slice_index_or places i None ≡ Some p → p.line.0 % length places ≡ i
+  pub own : (i : ℕ) (p : A) → slice_index_or places i None ≡ Some p → number p % length places ≡ i

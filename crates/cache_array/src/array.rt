@@ -23,12 +23,12 @@ impl Model for Array {
 
     ghost coded = { array_code };
 
-    ghost use Rattle.cache_array.specs.Places.{map_of, AreDirect};
+    ghost use Rattle.cache_array.specs.Places.{map_of, number, AreDirect};
     ghost use Rattle.std.specs.Prelude.{length};
 
     ghost view = { λ a. record { lines = length a.places.items; copies = map_of a.places.items } };
 
-    ghost invariant = { λ a. AreDirect a.places.items };
+    ghost invariant = { λ a. AreDirect number a.places.items };
 }
 
 impl Array {

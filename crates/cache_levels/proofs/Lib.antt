@@ -1,4 +1,6 @@
 pub mod Sets
 pub mod Lines
+pub mod Places
+pub mod LineSets
 pub mod Parts
 pub mod LawsOffered

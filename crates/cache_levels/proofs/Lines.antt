@@ -22,10 +22,6 @@ pub l2-without_level_line : (v : LevelsView) (l : ℕ) → (without_level_line v
 unfolding without_level_line
 l2-without_level_line v l = refl
 
-pub l2-entered : (v : LevelsView) (l : ℕ) → (entered v l).l2 ≡ v.l2
-unfolding entered
-l2-entered v l = refl
-
 pub l2-after_read : (v : LevelsView) (l : ℕ) → (after_read v l).l2 ≡ v.l2
 unfolding after_read entered
 l2-after_read v l = elim (has_line v.l2 l && not (in_l1 v l)) as (λ b. (cond b (entered v l) v).l2 ≡ v.l2) [ true ↦ refl | false ↦ refl ]
@@ -41,10 +37,6 @@ l1_lines-with_level_copy v l c = refl
 pub l1_lines-without_level_line : (v : LevelsView) (l : ℕ) → (without_level_line v l).l1_lines ≡ v.l1_lines
 unfolding without_level_line
 l1_lines-without_level_line v l = refl
-
-pub l1_lines-entered : (v : LevelsView) (l : ℕ) → (entered v l).l1_lines ≡ v.l1_lines
-unfolding entered
-l1_lines-entered v l = refl
 
 pub l1_lines-after_read : (v : LevelsView) (l : ℕ) → (after_read v l).l1_lines ≡ v.l1_lines
 unfolding after_read entered
@@ -62,7 +54,7 @@ pub in_l1-without_level_line : (v : LevelsView) (l q : ℕ) → in_l1 (without_l
 unfolding in_l1 without_level_line
 in_l1-without_level_line v l q = contains-remove_nat v.l1 l q
 
-pub in_l1-entered : (v : LevelsView) (l q : ℕ) → in_l1 (entered v l) q ≡ ((q == l) || (in_l1 v q && not (q % v.l1_lines == l % v.l1_lines)))
+in_l1-entered : (v : LevelsView) (l q : ℕ) → in_l1 (entered v l) q ≡ ((q == l) || (in_l1 v q && not (q % v.l1_lines == l % v.l1_lines)))
 unfolding in_l1 entered
 in_l1-entered v l q =
     contains-insert_nat (retain v.l1 (λ other. not (other % v.l1_lines == l % v.l1_lines))) l q
@@ -75,8 +67,6 @@ in_l1-after_read v l q =
       | true ↦ in_l1-entered v l q
       | false ↦ refl
     ]
-
-pub ruleset level_reads = (l2-empty_levels, l2-with_level_copy, l2-without_level_line, l2-entered, l2-after_read, l1_lines-empty_levels, l1_lines-with_level_copy, l1_lines-without_level_line, l1_lines-entered, l1_lines-after_read, in_l1-empty_levels, in_l1-with_level_copy, in_l1-without_level_line, in_l1-entered, in_l1-after_read)
 
 -- levels with as many indexes in L1, the same lines in L1 and the same L2 are equal
 pub same_levels : (v w : LevelsView) → v.l1_lines ≡ w.l1_lines → ((q : ℕ) → in_l1 v q ≡ in_l1 w q) → v.l2 ≡ w.l2 → v ≡ w

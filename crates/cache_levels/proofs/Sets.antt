@@ -1,13 +1,10 @@
--- Sets of numbers, and the lines of an array as one.
+-- Sets of numbers.
 use Rattle.std.proofs.Common.{◌≡◌, ℕ, Bool, not, ◌&&◌, ◌||◌, sym, ap, ◌∙◌}
 use Rattle.std.specs.Prelude.{◌==◌}
 use Rattle.std.specs.Ordering.{nat_cmp}
 use Rattle.std.specs.Cmp.{nat_cmp_total, unsigned_tied}
-use Rattle.std.specs.FinMap as fin
 use Rattle.std.specs.FinMap.{nat_cmp-IsAntisymmetric}
-use Rattle.std.specs.FinSet.{FinSet, contains, insert, remove, retain, contains-insert, contains-remove, contains-retain, contains-from_list, same_set}
-use Rattle.cache_array.specs.View.{ArrayView, copy_at, has_line}
-use Rattle.cache_levels.specs.Within.{lines_in}
+use Rattle.std.specs.FinSet.{FinSet, contains, insert, remove, retain, contains-insert, contains-remove, contains-retain, same_set}
 
 pub contains-insert_nat : (s : FinSet nat_cmp) (k q : ℕ) → contains (insert s k) q ≡ ((q == k) || contains s q)
 contains-insert_nat s k q = contains-insert nat_cmp_total s k q ∙ ap (λ b. b || contains s q) (unsigned_tied q k)
@@ -20,7 +17,3 @@ contains-retain_nat s p q = contains-retain s p q (λ x tie. ap p (sym (nat_cmp-
 
 pub same_nat_set : (s t : FinSet nat_cmp) → ((q : ℕ) → contains s q ≡ contains t q) → s ≡ t
 same_nat_set s t same = same_set nat_cmp_total nat_cmp-IsAntisymmetric s t same
-
-pub contains-lines_in : (a : ArrayView) (q : ℕ) → contains (lines_in a) q ≡ has_line a q
-unfolding lines_in copy_at
-contains-lines_in a q = contains-from_list nat_cmp_total (fin.keys a.copies) q ∙ sym (fin.contains_key-keys a.copies q)

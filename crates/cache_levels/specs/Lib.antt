@@ -1,3 +1,4 @@
 pub mod View
+pub mod LineSet
+pub mod Places
 pub mod Within
-pub mod Replaced

@@ -1,10 +1,9 @@
 //! L1 within L2.
 ghost use Rattle.std.specs.Prelude.{◌≡◌, ◌<◌, true, IfOk, MatchOption};
-ghost use Rattle.cache_array.specs.View.{copy_at, has_line, with_copy, HasRoom, IsOther, IsOnePerIndex};
+ghost use Rattle.cache_array.specs.View.{copy_at, has_line, HasRoom, IsOther, IsOnePerIndex};
 ghost use Rattle.cache_levels.specs.View.{empty_levels, with_level_copy, without_level_line, read_of, after_read, IsPartOfL2};
-ghost use Rattle.cache_levels.specs.Within.{IsWithin, with_copy_where_held};
 
-use crate::replace::replace;
+use crate::line_set::LineSet;
 use cache_array::Array;
 use dash_base::{Line, LineId, OutOfMemory};
 use std::alloc::Global;
@@ -12,9 +11,11 @@ use std::marker::Model;
 
 /// The caches of one hart. Contracts see L2 as an array, and of L1 the number of its indexes and
 /// the set of the lines that it has, a part of those of L2.
+///
+/// L1 keeps which lines it has, and L2 has the only copy of each.
 #[derive(Drop)]
 pub struct Levels {
-    l1: Array,
+    l1: LineSet,
     l2: Array,
 }
 
@@ -25,9 +26,9 @@ impl Model for Levels {
 
     ghost coded = { levels_code };
 
-    ghost use Rattle.cache_levels.specs.Within.{lines_in, IsWithin};
+    ghost use Rattle.cache_levels.specs.Within.{IsWithin};
 
-    ghost view = { λ v. record { l1_lines = v.l1.lines; l1 = lines_in v.l1; l2 = v.l2 } };
+    ghost view = { λ v. record { l1_lines = v.l1.lines; l1 = v.l1.held; l2 = v.l2 } };
 
     ghost invariant = { λ v. IsWithin v.l1 v.l2 };
 }
@@ -39,7 +40,7 @@ impl Levels {
         requires l2_some { 0 < l2 }
         ensures { IfOk result (λ levels. levels ≡ empty_levels l1 l2) }
     {
-        let l1 = Array::new(alloc, l1)?;
+        let l1 = LineSet::new(alloc, l1)?;
         let l2 = Array::new(alloc, l2)?;
         Ok(Levels { l1, l2 })
     }
@@ -51,11 +52,11 @@ impl Levels {
         ensures answer { result ≡ read_of self.old line.0 }
         ensures after { self.new ≡ after_read self.old line.0 }
     {
-        if let Some(copy) = self.l1.get(line) {
+        let copy = self.l2.get(line)?;
+        if self.l1.has(line) {
             return Some((copy, 1));
         }
-        let copy = self.l2.get(line)?;
-        replace(&mut self.l1, line, copy);
+        self.l1.enter(line);
         Some((copy, 2))
     }
 
@@ -73,7 +74,7 @@ impl Levels {
         requires { has_line self.old.l2 line.0 ≡ true }
         ensures { self.new ≡ with_level_copy self.old line.0 copy }
     {
-        put(&mut self.l1, &mut self.l2, line, copy);
+        self.l2.set(line, copy);
     }
 
     /// Keeps a copy of a line in L2, in place of the one that it had. No other line may stand at
@@ -82,7 +83,7 @@ impl Levels {
         requires { HasRoom self.old.l2 line.0 }
         ensures { self.new ≡ with_level_copy self.old line.0 copy }
     {
-        put(&mut self.l1, &mut self.l2, line, copy);
+        self.l2.set(line, copy);
     }
 
     /// Drops a line from both levels, if it is there.
@@ -101,17 +102,4 @@ impl Levels {
     {
         self.l2.victim(line)
     }
-}
-
-/// Keeps a copy of a line in L2, and in L1 where L1 has the line.
-fn put(l1: &mut Array, l2: &mut Array, line: LineId, copy: Line)
-    requires within { IsWithin l1.old l2.old }
-    requires room { HasRoom l2.old line.0 }
-    ensures below { l2.new ≡ with_copy l2.old line.0 copy }
-    ensures above { l1.new ≡ with_copy_where_held l1.old line.0 copy }
-{
-    if l1.get(line).is_some() {
-        l1.set(line, copy);
-    }
-    l2.set(line, copy);
 }

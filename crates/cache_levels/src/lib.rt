@@ -1,4 +1,5 @@
-//! The two cache levels of one hart: L1 within L2, each a direct-mapped array of lines.
+//! The two cache levels of one hart: L2, a direct-mapped array of lines, and L1, a direct-mapped set
+//! of some of them.
 //!
 //! No call but `new` takes memory, and none but `new` can fail.
 #![tactic(auto)]
@@ -6,4 +7,4 @@
 pub use levels::Levels;
 
 mod levels;
-mod replace;
+mod line_set;

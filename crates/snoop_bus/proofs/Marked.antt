@@ -1,20 +1,26 @@
 -- Levels with marks of ownership as one hart's caches, and what each change is to the caches.
 use Rattle.std.proofs.Common.{◌≡◌, ℕ, ◌<◌, ◌%◌, Bool, true, false, cond, not, ◌&&◌, List, length, get_or, set, refl, sym, ap, ◌∙◌, arith, length-set}
 use Rattle.std.specs.Prelude.{◌==◌}
+use Rattle.std.specs.Cmp.{nat_cmp_total}
+use Rattle.std.specs.FinMap.{keys, contains_key-keys}
+use Rattle.std.specs.FinSet.{contains, contains-from_list}
 use Rattle.std.proofs.lemmas.List.{get_or-set_same, get_or-set_other, get_or_default}
 use Rattle.std.proofs.lemmas.Bool.Decides.{nat_tests}
 use Rattle.dash_base.specs.declared.line.Line.{Line}
-use Rattle.cache_array.specs.View.{ArrayView, has_line, empty_array, with_copy, without_line, HasRoom, IsOnePerIndex}
+use Rattle.cache_array.specs.View.{ArrayView, copy_at, has_line, empty_array, with_copy, without_line, HasRoom, IsOnePerIndex}
 use Rattle.cache_array.proofs.LawsOffered.{copy_at-empty_array, copy_at-with_copy, copy_at-without_line, lines-empty_array, lines-with_copy, lines-without_line}
 use Rattle.cache_levels.specs.View.{LevelsView, empty_levels, with_level_copy, without_level_line, after_read}
-use Rattle.cache_levels.specs.Within.{lines_in}
-use Rattle.cache_levels.proofs.LawsOffered.{contains-lines_in, contains-retain_nat, l2-empty_levels, l2-with_level_copy, l2-without_level_line, l2-after_read}
+use Rattle.cache_levels.proofs.LawsOffered.{contains-retain_nat, l2-empty_levels, l2-with_level_copy, l2-without_level_line, l2-after_read}
 use Rattle.snoop_bus.specs.Caches.{CachesView, owns, no_caches, caches_with, caches_written, caches_without, caches_shared, caches_read}
-use Rattle.snoop_bus.specs.Marks.{owned_in, AreMarks}
+use Rattle.snoop_bus.specs.Marks.{lines_in, owned_in, AreMarks}
 use Rattle.snoop_bus.proofs.CachesLines.{levels-no_caches, levels-caches_with, levels-caches_written, levels-caches_without, levels-caches_shared, levels-caches_read, owns-no_caches, owns-caches_with, owns-caches_written, owns-caches_without, owns-caches_shared, owns-caches_read, same_caches}
 
 abbrev pub caches_of : List Bool → LevelsView → CachesView
 caches_of marks v = record { levels = v; owned = owned_in marks v.l2 }
+
+contains-lines_in : (a : ArrayView) (q : ℕ) → contains (lines_in a) q ≡ has_line a q
+unfolding lines_in copy_at
+contains-lines_in a q = contains-from_list nat_cmp_total (keys a.copies) q ∙ sym (contains_key-keys a.copies q)
 
 pub owns-caches_of : (marks : List Bool) (v : LevelsView) (q : ℕ) → owns (caches_of marks v) q ≡ (has_line v.l2 q && get_or marks (q % v.l2.lines) false)
 unfolding owns owned_in

@@ -1,9 +1,13 @@
 -- Marks of ownership, one at each index of L2.
 use Rattle.std.specs.Prelude.{◌≡◌, ◌<◌, ◌%◌, Bool, false, List, length, slice_index_or}
 use Rattle.std.specs.Ordering.{nat_cmp}
-use Rattle.std.specs.FinSet.{FinSet, retain}
+use Rattle.std.specs.FinMap.{keys}
+use Rattle.std.specs.FinSet.{FinSet, from_list, retain}
 use Rattle.cache_array.specs.View.{ArrayView}
-use Rattle.cache_levels.specs.Within.{lines_in}
+
+-- the lines that an array has
+unfoldable pub lines_in : ArrayView → FinSet nat_cmp
+lines_in a = from_list (keys a.copies)
 
 -- the lines of an array at whose index the mark is set
 unfoldable pub owned_in : List Bool → ArrayView → FinSet nat_cmp
