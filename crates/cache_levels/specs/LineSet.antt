@@ -9,6 +9,7 @@ pub record LineSetView : Type 0 where
   pub lines : ℕ
   pub held : FinSet nat_cmp
 
+-- a set is stored as both
 abbrev pub set_code : Coded LineSetView
 set_code =
     code_by (ℕ × FinSet nat_cmp) (coded× coded_ℕ (code coded_ℕ)) (λ s. (s.lines, s.held)) (λ p. record { lines = p.0; held = p.1 }) (λ _. refl)

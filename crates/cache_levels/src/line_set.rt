@@ -1,7 +1,7 @@
 //! A direct-mapped set of lines.
 ghost use Rattle.std.specs.Prelude.{◌≡◌, ◌<◌, ◌%◌, length, slice_set, IfOk};
-ghost use Rattle.cache_levels.specs.LineSet.{LineSetView, has, empty_set, with_line, without};
 ghost use Rattle.cache_array.specs.Places.{place_at};
+ghost use Rattle.cache_levels.specs.LineSet.{LineSetView, has, empty_set, with_line, without};
 ghost use Rattle.cache_levels.specs.Places.{is_place_of};
 
 use dash_base::{LineId, OutOfMemory};
