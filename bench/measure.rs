@@ -1,4 +1,5 @@
-//! Runs a program once and prints its wall time in nanoseconds, its peak memory in KiB and its status.
+//! Runs a program once and prints its wall time and its processor time in nanoseconds, its peak memory in KiB and
+//! its status.
 //! A process of its own, and small: a child's peak memory counts that of the process that started it.
 //! Usage: measure PROGRAM WORD..
 
@@ -7,7 +8,8 @@ use std::os::unix::process::ExitStatusExt;
 use std::process::{Command, Stdio};
 use std::time::Instant;
 
-/// The C library's `struct rusage` of 64-bit Linux: two times of two words each, and then 14 words.
+/// The C library's `struct rusage` of 64-bit Linux: two times in seconds and microseconds, the program's own and
+/// the system's for it, and then 14 words.
 #[repr(C)]
 struct Usage {
     times: [i64; 4],
@@ -32,5 +34,7 @@ fn main() {
     // SAFETY: the pointer is to a struct of the size and layout that the call writes.
     assert_eq!(unsafe { getrusage(CHILDREN, &mut usage) }, 0);
     let status = status.code().unwrap_or_else(|| -status.signal().unwrap_or(0));
-    println!("{took} {} {status}", usage.peak);
+    let [seconds, rest, system_seconds, system_rest] = usage.times;
+    let processor = (seconds + system_seconds) * 1_000_000_000 + (rest + system_rest) * 1_000;
+    println!("{took} {processor} {} {status}", usage.peak);
 }
