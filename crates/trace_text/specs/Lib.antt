@@ -2,3 +2,10 @@ pub mod Spelling
 pub mod AccessText
 pub mod MsgText
 pub mod LogText
+pub mod Words
+pub mod Values
+pub mod AccessWords
+pub mod MsgWords
+pub mod EventWords
+pub mod Fits
+pub mod Reading

@@ -6,9 +6,17 @@
 pub use accesses::push_access;
 pub use ends::cause_name;
 pub use log::write_log;
+pub use refusal::TextRefusal;
 
 mod accesses;
 mod ends;
 mod kinds;
 mod log;
 mod messages;
+mod read_accesses;
+mod read_kinds;
+mod read_line;
+mod read_messages;
+mod refusal;
+mod values;
+mod words;

@@ -1,0 +1,6 @@
+mod Cuts
+mod Digits
+mod Rows
+mod Again
+mod InRange
+mod Lines
