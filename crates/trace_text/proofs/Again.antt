@@ -38,7 +38,7 @@ use Rattle.trace_text.proofs.Rows.{seen_words, access_words, copy_words, msg_wor
 two : {A B C : Type 0} (f : A → B → C) {a b : A} {c d : B} → a ≡ b → c ≡ d → f a c ≡ f b d
 two f p q = cc
 
-three : {A B C D : Type 0} (f : A → B → C → D) {a b : A} {c d : B} {g h : C} → a ≡ b → c ≡ d → g ≡ h → f a c g ≡ f b d h
+pub three : {A B C D : Type 0} (f : A → B → C → D) {a b : A} {c d : B} {g h : C} → a ≡ b → c ≡ d → g ≡ h → f a c g ≡ f b d h
 three f p q r = cc
 
 four : {A B C D E : Type 0} (f : A → B → C → D → E) {a b : A} {c d : B} {g h : C} {i j : D}
@@ -106,16 +106,16 @@ seen_passed seen.Nothing ws = refl
 -- an access of equal fields
 make : HartId → ℕ → Op → Labels → WordAddr → ℕ → Option ℕ → Option ℕ → Seen → Access
 make hart number op labels word mask read written seen = record {
-    hart = hart;
-    number = number;
-    op = op;
-    labels = labels;
-    word = word;
-    mask = mask;
-    read = read;
-    written = written;
-    seen = seen;
-  }
+  hart = hart;
+  number = number;
+  op = op;
+  labels = labels;
+  word = word;
+  mask = mask;
+  read = read;
+  written = written;
+  seen = seen;
+}
 
 nine : {h i : HartId} {n m : ℕ} {o p : Op} {l k : Labels} {w v : WordAddr} {a b : ℕ} {r q : Option ℕ} {t u : Option ℕ} {s z : Seen}
     → h ≡ i → n ≡ m → o ≡ p → l ≡ k → w ≡ v → a ≡ b → r ≡ q → t ≡ u → s ≡ z
@@ -126,8 +126,8 @@ access_again : (a : Access) (ws : List (List ℕ)) → FitsAccess a → access_o
 unfolding access_of make
 access_again a ws fits =
     nine (hart_again a.hart fits.hart) (short_again a.number fits.number) (op_again a.op) (labels_by_bits a.labels.aq a.labels.rl)
-      (address_again a.word fits.word) (mask_again a.mask fits.mask) (content_again a.read fits.read) (content_again a.written fits.written)
-      (seen_again a.seen ws fits.seen)
+    (address_again a.word fits.word) (mask_again a.mask fits.mask) (content_again a.read fits.read) (content_again a.written fits.written)
+    (seen_again a.seen ws fits.seen)
 
 access_passed : (a : Access) (ws : List (List ℕ)) → behind_access (access_words a ws) ≡ ws
 unfolding behind_access
@@ -151,8 +151,8 @@ copy_again : (d : Line) (ws : List (List ℕ)) → FitsLine d → copy_of (copy_
 unfolding copy_of fill line
 copy_again d ws fits =
     two line
-      (four fill (hex_again _ (fits.words 0)) (hex_again _ (fits.words 1)) (hex_again _ (fits.words 2)) (hex_again _ (fits.words 3)) ∙ four_words d.words fits.four)
-      (long_again d.version fits.version)
+    (four fill (hex_again _ (fits.words 0)) (hex_again _ (fits.words 1)) (hex_again _ (fits.words 2)) (hex_again _ (fits.words 3)) ∙ four_words d.words fits.four)
+    (long_again d.version fits.version)
 
 msg_again : (m : Msg) → FitsMsg m → msg_of (msg_words m) ≡ m
 unfolding msg_of line_msg_of sent_for_of copied_msg_of
@@ -193,15 +193,15 @@ kind_again (kind.Put hart pc byte) fits = three kind.Put (hart_again hart fits.0
 kind_again (kind.Stop hart pc end) fits = three kind.Stop (hart_again hart fits.0) (hex_again pc fits.1) (end_again end fits.2)
 kind_again (kind.Load access level) fits =
     two kind.Load (access_again access (decimal level ∷ []) fits.0)
-      (ap (λ ws. number_of (first ws)) (access_passed access (decimal level ∷ [])) ∙ short_again level fits.1)
+    (ap (λ ws. number_of (first ws)) (access_passed access (decimal level ∷ [])) ∙ short_again level fits.1)
 kind_again (kind.Store access) fits = ap kind.Store (access_again access [] fits)
 kind_again (kind.Commit hart number line version) fits =
     four kind.Commit (hart_again hart fits.0) (short_again number fits.1) (line_again line fits.2) (long_again version fits.3)
 kind_again (kind.Rmw access line version) fits =
     let others : List (List ℕ) = decimal line.0 ∷ decimal version ∷ [] in
     three kind.Rmw (access_again access others fits.0)
-      (ap (λ ws. line_of (first ws)) (access_passed access others) ∙ line_again line fits.1)
-      (ap (λ ws. value_of 10 (first (behind ws))) (access_passed access others) ∙ long_again version fits.2)
+    (ap (λ ws. line_of (first ws)) (access_passed access others) ∙ line_again line fits.1)
+    (ap (λ ws. value_of 10 (first (behind ws))) (access_passed access others) ∙ long_again version fits.2)
 kind_again (kind.ScFail access) fits = ap kind.ScFail (access_again access [] fits)
 kind_again (kind.LockSend hart msg) fits = two kind.LockSend (hart_again hart fits.0) (msg_again msg fits.1)
 kind_again (kind.BusRead hart line) fits = two kind.BusRead (hart_again hart fits.0) (line_again line fits.1)
@@ -216,7 +216,7 @@ kind_again (kind.Grant access) fits = ap kind.Grant (access_again access [] fits
 kind_again (kind.Free from access) fits = two kind.Free (cluster_again from fits.0) (access_again access [] fits.1)
 kind_again (kind.Take from msg) fits = two kind.Take (cluster_again from fits.0) (msg_again msg fits.1)
 
-happened : ℕ → ClusterId → Kind → Event
+unfoldable pub happened : ℕ → ClusterId → Kind → Event
 happened stamp cluster kind = record { stamp = stamp; cluster = cluster; kind = kind }
 
 -- by the words of its line

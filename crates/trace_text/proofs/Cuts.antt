@@ -13,10 +13,10 @@ behind_longer : (c : ℕ) (ws : List (List ℕ)) → behind (longer c ws) ≡ be
 behind_longer c [] = refl
 behind_longer c (w ∷ ws) = refl
 
-take_more : (n x : ℕ) (xs : List ℕ) → take (1 + n) (x ∷ xs) ≡ x ∷ take n xs
+pub take_more : (n x : ℕ) (xs : List ℕ) → take (1 + n) (x ∷ xs) ≡ x ∷ take n xs
 take_more n x xs = rw (add_comm 1 n) (grind arith)
 
-drop_more : (n x : ℕ) (xs : List ℕ) → drop (1 + n) (x ∷ xs) ≡ drop n xs
+pub drop_more : (n x : ℕ) (xs : List ℕ) → drop (1 + n) (x ∷ xs) ≡ drop n xs
 drop_more n x xs = rw (add_comm 1 n) (grind arith)
 
 first_step : (b : Bool) (n x : ℕ) (xs : List ℕ) (ws : List (List ℕ)) → take n xs ≡ first ws
@@ -41,17 +41,17 @@ unfolding words
 behind_is [] = refl
 behind_is (x ∷ xs) = behind_step (is_mark x) (position_or_len is_mark xs) x xs (behind_is xs)
 
--- how far the first mark is
-pub mark_at_most : (xs : List ℕ) → position_or_len is_mark xs ≤ length xs
-mark_at_most [] = omega arith
-mark_at_most (x ∷ xs) = let shorter = mark_at_most xs in grind (arith, nat_tests)
+-- how far the first byte is that passes
+pub at_most : (p : ℕ → Bool) (xs : List ℕ) → position_or_len p xs ≤ length xs
+at_most p [] = omega arith
+at_most p (x ∷ xs) = let shorter = at_most p xs in grind (arith, nat_tests)
 
 place : (b : Bool) (k n : ℕ) → k ≤ n → ltb k n ≡ b → unwrap_or (cond b (Some k) None) n ≡ k
 place true k n most is = refl
 place false k n most is = grind (arith, nat_tests)
 
-pub place_is : (xs : List ℕ) → unwrap_or (position is_mark xs) (length xs) ≡ position_or_len is_mark xs
-place_is xs = place _ (position_or_len is_mark xs) (length xs) (mark_at_most xs) refl
+pub place_is : (p : ℕ → Bool) (xs : List ℕ) → unwrap_or (position p xs) (length xs) ≡ position_or_len p xs
+place_is p xs = place _ (position_or_len p xs) (length xs) (at_most p xs) refl
 
 -- nothing is left of what has no byte
 pub none_behind : (xs : List ℕ) → length xs < 1 → drop 1 xs ≡ xs

@@ -4,3 +4,4 @@ mod Rows
 mod Again
 mod InRange
 mod Lines
+mod Texts

@@ -6,6 +6,7 @@
 pub use accesses::push_access;
 pub use ends::cause_name;
 pub use log::write_log;
+pub use reader::read_log;
 pub use refusal::TextRefusal;
 
 mod accesses;
@@ -17,6 +18,7 @@ mod read_accesses;
 mod read_kinds;
 mod read_line;
 mod read_messages;
+mod reader;
 mod refusal;
 mod values;
 mod words;

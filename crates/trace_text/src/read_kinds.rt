@@ -1,29 +1,17 @@
 //! What happened, by the words that stand for it.
 ghost use Rattle.std.specs.Prelude.{◌≡◌};
-ghost use Rattle.trace_text.specs.EventWords.{end_of, retired_of, asked_of, cached_of, passed_of, kind_of, event_of};
+ghost use Rattle.trace_text.specs.EventWords.{end_of, retired_of, asked_of, cached_of, passed_of, kind_of};
 
 use crate::read_accesses::take_access;
 use crate::read_messages::take_msg;
 use crate::values::{cause_of, is_name};
 use crate::words::Words;
 use dash_base::End;
-use dash_event::{Event, Kind};
+use dash_event::Kind;
 
-/// Takes an event. Of words that stand for none it makes some event.
-#[tactic(auto, unfolding(crate::specs::EventWords::event_of))]
-pub fn take_event(words: &mut Words<'_>) -> Event
-    ensures { result ≡ event_of words.old }
-{
-    Event {
-        stamp: words.long(),
-        cluster: words.cluster(),
-        kind: take_kind(words),
-    }
-}
-
-/// Takes what happened.
+/// Takes what happened. Of words that stand for nothing it makes some kind.
 #[tactic(auto, unfolding(crate::specs::EventWords::kind_of))]
-fn take_kind(words: &mut Words<'_>) -> Kind
+pub fn take_kind(words: &mut Words<'_>) -> Kind
     ensures { result ≡ kind_of words.old }
 {
     let name = words.take();

@@ -1,7 +1,7 @@
 //! Why a text is no log's.
 
 use dash_base::OutOfMemory;
-use std::alloc::AllocError;
+use std::alloc::{AllocError, AllocFailed};
 
 /// Why a text is refused.
 #[derive(Clone, Copy, Debug, PartialEq, Eq)]
@@ -34,6 +34,17 @@ impl From<OutOfMemory> for TextRefusal {
     ghost from_gives = { λ _ e. e ≡ refusal.OutOfMemory };
 
     fn from(_error: OutOfMemory) -> TextRefusal {
+        TextRefusal::OutOfMemory
+    }
+}
+
+impl<T: Drop> From<AllocFailed<T>> for TextRefusal {
+    ghost use Rattle.std.specs.Prelude.{◌≡◌};
+    ghost use Rattle.trace_text.specs.declared.refusal.TextRefusal.TheVariants as refusal;
+
+    ghost from_gives = { λ _ e. e ≡ refusal.OutOfMemory };
+
+    fn from(_failed: AllocFailed<T>) -> TextRefusal {
         TextRefusal::OutOfMemory
     }
 }
