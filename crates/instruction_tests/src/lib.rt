@@ -16,6 +16,8 @@ mod flat_runs;
 #[cfg(test)]
 mod harts;
 #[cfg(test)]
+mod log_refusals;
+#[cfg(test)]
 mod logs;
 #[cfg(test)]
 mod spelling;

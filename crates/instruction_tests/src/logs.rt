@@ -5,7 +5,7 @@ use dash_event::{Access, Event, Kind, Op, Seen};
 use dash_msg::Msg;
 use std::alloc::Global;
 use std::test::Fail;
-use trace_text::write_log;
+use trace_text::{TextRefusal, read_log, write_log};
 
 const HART: HartId = HartId(3);
 
@@ -221,6 +221,13 @@ fn text_of(alloc: Global, log: &[Event]) -> Result<String, Fail> {
     Ok(String::from_utf8(write_log(alloc, log)?)?)
 }
 
+fn read(alloc: Global, text: &[u8]) -> Result<Vec<Event>, TextRefusal> {
+    if text.len() >= 4_294_967_295 {
+        return Err(TextRefusal::OutOfMemory);
+    }
+    read_log(alloc, text)
+}
+
 #[test]
 fn each_kind_of_event_has_its_line(rt: HostRuntime) -> Result<(), Fail> {
     let alloc = rt.alloc();
@@ -233,6 +240,7 @@ fn each_kind_of_event_has_its_line(rt: HostRuntime) -> Result<(), Fail> {
         let text = text_of(alloc, &[event])?;
         let expected = format!(in alloc; "dash log 1\n1000 15 {line}\n")?;
         assert_eq!(rt; text.as_str(), expected.as_str());
+        assert_eq!(rt; read(alloc, text.as_bytes())?.as_slice(), &[event][..]);
     }
     Ok(())
 }
@@ -241,5 +249,6 @@ fn each_kind_of_event_has_its_line(rt: HostRuntime) -> Result<(), Fail> {
 fn a_log_without_events_is_one_line(rt: HostRuntime) -> Result<(), Fail> {
     let text = text_of(rt.alloc(), &[])?;
     assert_eq!(rt; text.as_str(), "dash log 1\n");
+    assert_eq!(rt; read(rt.alloc(), text.as_bytes())?.len(), 0);
     Ok(())
 }

@@ -1,5 +1,5 @@
 -- An event is found again by the words of its line, and so by its line.
-use Rattle.std.proofs.Common.{◌≡◌, ℕ, ◌%◌, ◌^◌, ◌<◌, Bool, true, false, List, [], ◌∷◌, ◌++◌, Option, Some, None, IfSome, length, slice_index, codes, decimal, if◌then◌else◌, refl, ap, sym, subst, ◌∙◌, arith}
+use Rattle.std.proofs.Common.{◌≡◌, ℕ, Bool, true, false, List, [], ◌∷◌, Option, length, slice_index, codes, decimal, refl, ap, sym, ◌∙◌, arith}
 use Rattle.std.specs.Str.{bytes_eq}
 use Rattle.dash_base.specs.declared.end.End.{End}
 use Rattle.dash_base.specs.declared.end.End.TheVariants.{Running, Exited, Trapped}
@@ -24,7 +24,7 @@ use Rattle.dash_msg.specs.declared.msg.Msg.TheVariants.{Read, ReadEx, FwdRead, F
 use Rattle.trace_text.specs.AccessText.{op_text, labels_text}
 use Rattle.trace_text.specs.AccessWords.{seen_of, behind_seen, access_of, behind_access}
 use Rattle.trace_text.specs.EventWords.{end_of, retired_of, asked_of, cached_of, passed_of, kind_of, event_of}
-use Rattle.trace_text.specs.Fits.{IsShort, IsLong, IsShortIfAny, FitsSeen, FitsAccess, FitsLine, FitsMsg, FitsEnd, FitsKind, FitsEvent}
+use Rattle.trace_text.specs.Fits.{IsShort, FitsSeen, FitsAccess, FitsLine, FitsMsg, FitsEnd, FitsKind, FitsEvent}
 use Rattle.trace_text.specs.LogText.{event_line, own_text}
 use Rattle.trace_text.specs.MsgWords.{copy_of, copied_msg_of, sent_for_of, line_msg_of, msg_of}
 use Rattle.trace_text.specs.Spelling.{cause_text}

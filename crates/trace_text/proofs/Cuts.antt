@@ -1,6 +1,6 @@
 -- A text is cut where its first word ends, and a word with a mark behind it is the first of the words.
-use Rattle.std.proofs.Common.{◌≡◌, ℕ, ◌+◌, ◌-◌, ◌≤◌, ◌<◌, Bool, true, false, not, ◌&&◌, cond, ltb, length, take, drop, List, [], ◌∷◌, ◌++◌, Option, Some, None, unwrap_or, position, refl, ap, sym, ◌∙◌, arith, add_comm}
-use Rattle.std.specs.List.{position_or_len, position_from, prefix_len}
+use Rattle.std.proofs.Common.{◌≡◌, ℕ, ◌+◌, ◌-◌, ◌≤◌, ◌<◌, Bool, true, false, not, ◌&&◌, cond, ltb, length, take, drop, List, [], ◌∷◌, ◌++◌, Some, None, unwrap_or, position, refl, ap, sym, ◌∙◌, arith, add_comm}
+use Rattle.std.specs.List.{position_or_len}
 use Rattle.std.proofs.Math.Seq.{take-length}
 use Rattle.std.proofs.lemmas.Bool.Decides.{nat_tests}
 use Rattle.trace_text.specs.Words.{is_mark, longer, in_front, words, first, behind}

@@ -1,17 +1,13 @@
 -- What words stand for is within the bounds of its types.
-use Rattle.std.proofs.Common.{◌≡◌, ℕ, zero, suc, ◌%◌, ◌^◌, ◌<◌, Bool, true, false, List, [], ◌∷◌, Option, Some, None, slice_index, codes, if◌then◌else◌, refl, arith}
+use Rattle.std.proofs.Common.{ℕ, zero, suc, ◌%◌, ◌^◌, Bool, true, false, List, [], ◌∷◌, Some, None, slice_index, codes, if◌then◌else◌, refl, arith}
 use Rattle.std.specs.Str.{bytes_eq}
 use Rattle.std.proofs.Math.Nat.{mod-lt}
-use Rattle.dash_base.specs.declared.end.End.{End}
 use Rattle.dash_base.specs.declared.id.LineId.{LineId}
-use Rattle.dash_event.specs.declared.access.Seen.{Seen}
-use Rattle.dash_event.specs.declared.event.Kind.{Kind}
-use Rattle.dash_msg.specs.declared.msg.Msg.{Msg}
 use Rattle.trace_text.specs.AccessWords.{seen_of, access_of}
 use Rattle.trace_text.specs.EventWords.{end_of, retired_of, asked_of, cached_of, passed_of, kind_of, event_of}
 use Rattle.trace_text.specs.Fits.{IsShort, IsLong, IsShortIfAny, FitsSeen, FitsAccess, FitsLine, FitsMsg, FitsEnd, FitsKind, FitsEvent}
 use Rattle.trace_text.specs.MsgWords.{copy_of, copied_msg_of, sent_for_of, line_msg_of, msg_of}
-use Rattle.trace_text.specs.Words.{first, behind}
+use Rattle.trace_text.specs.Words.{first}
 use Rattle.trace_text.specs.Values.{value_of, content_of, slot_of}
 
 short : (n : ℕ) → IsShort (n % 2 ^ 32)

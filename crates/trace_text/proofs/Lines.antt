@@ -22,15 +22,15 @@ unfolding happened event_of
 made line all later last stamp cluster kind all_is stamp_is later_is cluster_is last_is kind_is =
     let later_of = later_is ∙ ap behind all_is in
     three happened (stamp_is ∙ ap (λ ws. value_of 10 (first ws)) all_is) (cluster_is ∙ ap (λ ws. cluster_of (first ws)) later_of)
-      (kind_is ∙ ap kind_of (last_is ∙ ap behind later_of))
+    (kind_is ∙ ap kind_of (last_is ∙ ap behind later_of))
 
 -- the line is that of what its words stand for
 same_line : (line written : List ℕ) (e : Event) → e ≡ event_of (words line) → written ≡ event_line e → bytes_eq written line ≡ true
     → IsLineOf line e
 same_line line written e is writes same = record {
-    fits = subst FitsEvent (sym is) (event_fits (words line));
-    spelled = sym writes ∙ (bytes_eq-Decides written line).0 same;
-  }
+  fits = subst FitsEvent (sym is) (event_fits (words line));
+  spelled = sym writes ∙ (bytes_eq-Decides written line).0 same;
+}
 
 -- where it isn't, it is no event's
 other_line : (line written : List ℕ) (e : Event) → e ≡ event_of (words line) → written ≡ event_line e → bytes_eq written line ≡ false

@@ -1,5 +1,5 @@
 -- The words of a line are its name and its fields.
-use Rattle.std.proofs.Common.{◌≡◌, ℕ, ◌^◌, ◌<◌, Bool, true, false, List, [], ◌∷◌, ◌++◌, codes, decimal, slice_index, refl, ap, ◌∙◌, append_assoc, arith}
+use Rattle.std.proofs.Common.{◌≡◌, ℕ, ◌^◌, ◌<◌, Bool, true, false, List, [], ◌∷◌, ◌++◌, codes, decimal, slice_index, refl, ap, ◌∙◌, append_assoc}
 use Rattle.std.specs.Fmt.{digits}
 use Rattle.dash_base.specs.declared.end.End.{End}
 use Rattle.dash_base.specs.declared.end.End.TheVariants.{Running, Exited, Trapped}
@@ -20,7 +20,7 @@ use Rattle.trace_text.specs.AccessText.{op_text, labels_text, seen_text, access_
 use Rattle.trace_text.specs.Fits.{FitsSeen, FitsAccess, FitsLine, FitsMsg, FitsEnd, FitsKind, FitsEvent}
 use Rattle.trace_text.specs.LogText.{end_text, own_text, kind_text, event_line}
 use Rattle.trace_text.specs.MsgText.{copy_text, msg_text}
-use Rattle.trace_text.specs.Spelling.{hex, hex_byte, word_text, number_text, cause_text, newline}
+use Rattle.trace_text.specs.Spelling.{hex, hex_byte, word_text, number_text, cause_text}
 use Rattle.trace_text.specs.Words.{is_mark, words}
 use Rattle.trace_text.proofs.Cuts.{is_word, word_then}
 use Rattle.trace_text.proofs.Digits.{short_word, decimal_word, hex_word, byte_word, mask_word, content_word, slot_word}

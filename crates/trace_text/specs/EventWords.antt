@@ -1,5 +1,5 @@
 -- The event that the words of a line stand for, if they stand for one.
-use Rattle.std.specs.Prelude.{ℕ, ◌%◌, Bool, List, codes, if◌then◌else◌}
+use Rattle.std.specs.Prelude.{ℕ, ◌%◌, List, codes, if◌then◌else◌}
 use Rattle.std.specs.Str.{bytes_eq}
 use Rattle.dash_base.specs.declared.end.End.{End}
 use Rattle.dash_base.specs.declared.end.End.TheVariants.{Running, Exited, Trapped}

@@ -1,5 +1,5 @@
 -- The events whose numbers are within the bounds of their types: all that a program can have.
-use Rattle.std.specs.Prelude.{◌≡◌, ℕ, ◌^◌, ◌<◌, List, length, Option, IfSome, EachIndex, slice_index, ⊤}
+use Rattle.std.specs.Prelude.{◌≡◌, ℕ, ◌^◌, ◌<◌, length, Option, IfSome, slice_index, ⊤}
 use Rattle.dash_base.specs.declared.end.End.{End}
 use Rattle.dash_base.specs.declared.end.End.TheVariants.{Running, Exited, Trapped}
 use Rattle.dash_base.specs.declared.line.Line.{Line}

@@ -3,7 +3,7 @@ use Rattle.std.specs.Prelude.{◌≡◌, ◌≢◌, ℕ, ◌+◌, ◌<◌, Bool,
 use Rattle.std.specs.List.{AllByRecursion}
 use Rattle.dash_event.specs.declared.event.Event.{Event}
 use Rattle.trace_text.specs.Fits.{FitsEvent}
-use Rattle.trace_text.specs.LogText.{event_line, first_line}
+use Rattle.trace_text.specs.LogText.{event_line, first_line, log_text}
 use Rattle.trace_text.specs.Spelling.{newline}
 use Rattle.trace_text.specs.declared.refusal.TextRefusal.{TextRefusal}
 use Rattle.trace_text.specs.declared.refusal.TextRefusal.TheVariants.{Head, Cut, At, OutOfMemory}
@@ -62,6 +62,11 @@ pub record IsFirstOdd (lines : List ℕ) (number : ℕ) : Type 0 where
   pub first : IsFirstLine rest line behind
   pub odd : IsNoLine line
   pub counted : number ≡ length before + 2
+
+-- the text is that of this log, whose numbers are within the bounds of their types
+pub record IsTextOf (text : List ℕ) (log : List Event) : Type 0 where
+  pub is : text ≡ log_text log
+  pub fit : AllByRecursion FitsEvent log
 
 -- why lines behind a head are refused
 abbrev pub AreRefusedFor : List ℕ → TextRefusal → Type 0

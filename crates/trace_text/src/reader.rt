@@ -1,7 +1,6 @@
 //! Logs, read from their text.
 ghost use Rattle.std.specs.Prelude.{◌≡◌, ◌+◌, ◌-◌, ◌^◌, ◌<◌, [], length, position, true, unwrap_or, IfOk, IfErr};
-ghost use Rattle.trace_text.specs.Reading.{is_whole, is_newline, IsFirstLine, AreLinesOf, AreRefusedFor, IsRefusedFor};
-ghost use Rattle.trace_text.specs.LogText.{log_text};
+ghost use Rattle.trace_text.specs.Reading.{is_whole, is_newline, IsFirstLine, AreLinesOf, IsTextOf, AreRefusedFor, IsRefusedFor};
 
 use crate::read_line::read_event;
 use crate::refusal::TextRefusal;
@@ -14,7 +13,7 @@ use std::alloc::Global;
 /// may stand in place of any answer.
 pub fn read_log(alloc: Global, bytes: &[u8]) -> Result<Vec<Event>, TextRefusal>
     requires { length bytes.now < 2 ^ 32 - 1 }
-    ensures ok { IfOk result (λ log. log_text log.items ≡ bytes.now) }
+    ensures ok { IfOk result (λ log. IsTextOf bytes.now log.items) }
     ensures refused { IfErr result (IsRefusedFor bytes.now) }
 {
     let Some(lines) = bytes.strip_prefix(b"dash log 1\n") else {

@@ -1,4 +1,4 @@
-use Rattle.std.proofs.Common.{◌≡◌, ℕ, List, ◌++◌, sym, ap, ◌∙◌}
+use Rattle.std.proofs.Common.{ℕ, List, ◌++◌, ap, ◌∙◌}
 use Rattle.trace_text.specs.LogText.{event_line}
 use Rattle.trace_text.proofs.Again.{happened}
 use Rattle.trace_text.proofs.Lines.{made, read_other, read_same}
@@ -9,19 +9,19 @@ unfolding happened
 returns-then-ne c =
     read_other c.args.line.now c.as_bytes.result.now (happened c.long.result c.cluster.result c.take_kind.result) c.ne.result
     (made c.args.line.now c.of-words.result c.long.new.self c.cluster.new.self _ _ _
-      c.of-words.ensures c.long.ensures.value c.long.ensures.rest c.cluster.ensures.value c.cluster.ensures.rest c.take_kind.ensures)
+    c.of-words.ensures c.long.ensures.value c.long.ensures.rest c.cluster.ensures.value c.cluster.ensures.rest c.take_kind.ensures)
     (c.as_bytes.ensures.value ∙ c.in_ok-push_event.ensures ∙ ap (λ (bs : List ℕ). bs ++ event_line (happened c.long.result c.cluster.result c.take_kind.result)) c.clear.ensures.bytes)
     c.ne.ensures c.if-ne.true
 
 pub returns : goal.returns
 unfolding happened
 returns c = record {
-    event = happened c.long.result c.cluster.result c.take_kind.result;
-    of =
+  event = happened c.long.result c.cluster.result c.take_kind.result;
+  of =
       read_same c.args.line.now c.as_bytes.result.now (happened c.long.result c.cluster.result c.take_kind.result) c.ne.result
       (made c.args.line.now c.of-words.result c.long.new.self c.cluster.new.self _ _ _
-        c.of-words.ensures c.long.ensures.value c.long.ensures.rest c.cluster.ensures.value c.cluster.ensures.rest c.take_kind.ensures)
+      c.of-words.ensures c.long.ensures.value c.long.ensures.rest c.cluster.ensures.value c.cluster.ensures.rest c.take_kind.ensures)
       (c.as_bytes.ensures.value ∙ c.in_ok-push_event.ensures ∙ ap (λ (bs : List ℕ). bs ++ event_line (happened c.long.result c.cluster.result c.take_kind.result)) c.clear.ensures.bytes)
       c.ne.ensures c.if-ne.false;
-    is = c.in_ok-push.ensures.items;
-  }
+  is = c.in_ok-push.ensures.items;
+}

@@ -1,4 +1,4 @@
-use Rattle.std.proofs.Common.{◌≡◌, ℕ, ◌+◌, List, length, take, drop, sym, subst, ap, ◌∙◌, add_comm, arith}
+use Rattle.std.proofs.Common.{ℕ, ◌+◌, List, take, drop, sym, subst, ap, ◌∙◌, add_comm, arith}
 use Rattle.std.specs.List.{position_or_len}
 use Rattle.trace_text.specs.Reading.{is_newline, IsFirstLine}
 use Rattle.trace_text.proofs.Cuts.{place_is}

@@ -1,4 +1,4 @@
-use Rattle.std.proofs.Common.{◌≡◌, sym, ap, ◌∙◌}
+use Rattle.std.proofs.Common.{sym, ap, ◌∙◌}
 use Rattle.trace_text.specs.Reading.{is_whole}
 use Rattle.trace_text.proofs.Texts.{whole_last}
 use Rattle.trace_text.proofs.reader.is_whole.Goals as goal

@@ -1,4 +1,4 @@
-use Rattle.std.proofs.Common.{ℕ, length}
+use Rattle.std.proofs.Common.{length}
 use Rattle.trace_text.proofs.Texts.{Reads}
 use Rattle.trace_text.proofs.reader.read_lines.Given as goal
 

@@ -1,4 +1,4 @@
-use Rattle.std.proofs.Common.{◌≡◌, ℕ, ◌+◌, ◌*◌, ◌%◌, ◌^◌, take, refl}
+use Rattle.std.proofs.Common.{refl}
 use Rattle.trace_text.specs.Values.{value_of}
 use Rattle.trace_text.proofs.Digits.{value_more}
 use Rattle.trace_text.proofs.values.value_of.Goals as goal

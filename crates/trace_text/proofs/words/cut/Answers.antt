@@ -1,6 +1,5 @@
-use Rattle.std.proofs.Common.{◌≡◌, ◌+◌, ◌≤◌, ℕ, List, length, drop, take, refl, ap, sym, subst, ◌∙◌, arith}
-use Rattle.std.specs.List.{position_or_len}
-use Rattle.trace_text.specs.Words.{is_mark, words, first, behind}
+use Rattle.std.proofs.Common.{drop, take, ap, sym, ◌∙◌, arith}
+use Rattle.trace_text.specs.Words.{is_mark, words}
 use Rattle.trace_text.proofs.Cuts.{first_is, behind_is, at_most, place_is, none_behind, all_behind}
 use Rattle.trace_text.proofs.words.cut.Goals as goal
 
