@@ -22,3 +22,7 @@ peeked_is_next q p known new first next =
 -- what was sent, where the next parcel is taken: one more is received, one fewer is left
 pub taken_from : (p : Parcel) (received known new spool sent : List Parcel) → known ≡ p ∷ new → (received ++ known) ++ spool ≡ sent → ((received ++ p ∷ []) ++ new) ++ spool ≡ sent
 taken_from p received known new spool sent is met = ap (λ ps. ps ++ spool) (append_assoc received (p ∷ []) new ∙ sym (ap (λ ps. received ++ ps) is)) ∙ met
+
+-- what is known after two looks
+pub prefix_then : (xs ys zs : List Parcel) → IsPrefix xs ys → IsPrefix ys zs → IsPrefix xs zs
+prefix_then xs ys zs f g = (f.0 ++ g.0, sym (append_assoc xs f.0 g.0) ∙ ap (λ l. l ++ g.0) f.1 ∙ g.1)

@@ -1,5 +1,6 @@
 //! The two ends of a lane on one thread.
 ghost use Rattle.std.specs.Prelude.{◌≡◌, ◌+◌, ◌<◌, ◌≤◌, ◌++◌, length};
+ghost use mathlib.Core.List.{IsPrefix};
 
 use crate::inlet::Inlet;
 use crate::outlet::Outlet;
@@ -13,6 +14,7 @@ pub fn meet(out: &mut Outlet, inlet: &mut Inlet) -> u32
     ensures out { out.new ≡ record out.old { free = out.new.free } }
     ensures inlet { inlet.new ≡ record inlet.old { known = inlet.new.known } }
     ensures met { (inlet.new.received ++ inlet.new.known) ++ out.new.spool ≡ out.new.sent }
+    ensures known { IsPrefix inlet.old.known inlet.new.known }
     ensures count { result ≡ length inlet.new.known + length out.new.spool }
     ensures room { 64 ≤ out.new.free + length inlet.new.known }
 {
@@ -28,6 +30,7 @@ pub fn meet_and_flush(out: &mut Outlet, inlet: &mut Inlet) -> u32
     ensures same { (out.new.sent ≡ out.old.sent) × (inlet.new.received ≡ inlet.old.received) }
     ensures spare { out.old.spare ≤ out.new.spare }
     ensures met { (inlet.new.received ++ inlet.new.known) ++ out.new.spool ≡ out.new.sent }
+    ensures known { IsPrefix inlet.old.known inlet.new.known }
     ensures count { result ≡ length inlet.new.known + length out.new.spool }
     ensures shown { 0 < result → 0 < length inlet.new.known }
 {
