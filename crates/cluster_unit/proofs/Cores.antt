@@ -29,11 +29,13 @@ use Rattle.unit_rows.specs.Opening.{IsOpening}
 use Rattle.unit_rows.specs.declared.parts.Local.{Local}
 use Rattle.unit_rows.specs.Rows.{Does, Cannot, DoesChoice}
 use Rattle.unit_rows.specs.Local.{event_at}
-use Rattle.unit_rows.proofs.LawsOffered.{local_more, opening_shows, opening_sized}
+use Rattle.unit_rows.specs.Left.{weight_left}
+use Rattle.dash_model.proofs.LawsOffered.{local_runs_queue_at_home}
+use Rattle.unit_rows.proofs.LawsOffered.{local_more, opening_shows, opening_sized, left_is}
 use Rattle.cluster_unit.specs.Enabling.{is_take}
 use Rattle.cluster_unit.specs.View.{CoreView}
 use Rattle.cluster_unit.specs.Ends.{place, parcels, AllOfClass, Carry, AreOfClass, Brought, NoneBeyond, Sends, HaveSpare}
-use Rattle.cluster_unit.specs.Core.{HasRun, IsAt, IsCore}
+use Rattle.cluster_unit.specs.Core.{HasRun, IsAt, IsWeighed, IsCore}
 use Rattle.cluster_unit.specs.Turns.{IsIdle, SameOutlets, Happened, OthersStay, Received}
 use Rattle.cluster_unit.specs.Messages.{Took}
 use Rattle.cluster_unit.proofs.Lanes.{carry_more, brought_more, none_beyond_more}
@@ -49,6 +51,8 @@ has_run v last a capacity k = record {
   carry = subst (λ ps. Carry a.config.top.clusters a.cluster ps a.outlets) (sym k.local.sent_is) k.carry;
   brought = λ honest. subst (λ ps. Brought a.config.top.clusters a.cluster ps a.inlets) (sym k.local.received_is) (k.brought honest);
   sources = subst (NoneBeyond a.config.top.clusters) (sym k.local.received_is) k.sources;
+  outlets = k.outlets;
+  inlets = k.inlets;
 }
 
 -- its parts show the one part that its log leads to
@@ -61,6 +65,13 @@ shows_at v last a capacity p k at =
 -- there is such a part
 pub is_at : (v : PartsView) (last : ℕ) (a : CoreView) (capacity : ℕ) → (k : IsCore v last a capacity) → IsAt a (part_at a.config a.cluster (opening_part a.config) k.local.history)
 is_at v last a capacity k = record { history = k.local.history; events = k.local.events; ran = k.local.ran; part = refl }
+
+-- and have its weight
+pub weighed : (v : PartsView) (last : ℕ) (a : CoreView) (capacity : ℕ) → IsCore v last a capacity → IsWeighed a
+weighed v last a capacity k p at =
+    k.weight
+    ∙ left_is a.config a.cluster v p (shows_at v last a capacity p k at) k.sized
+      (λ i far. ap (λ (y : Part). (y.locks i).queue) at.part ∙ local_runs_queue_at_home a.config a.cluster at.history i at.ran far)
 
 -- what can't be done on the parts can't be done where the log leads to
 pub idle_at : (v : PartsView) (last : ℕ) (a : CoreView) (capacity : ℕ) (x : Choice) → IsCore v last a capacity → Cannot a.config a.cluster v x → IsIdle a x
@@ -78,6 +89,7 @@ core_kept v last a capacity reserved inlets k less count same = record {
   sent = k.sent;
   received = k.received;
   local = k.local;
+  weight = k.weight;
   carry = k.carry;
   brought = λ honest f j x low. same (place f j) x ∙ k.brought (λ g i y below. subst (AllOfClass i) (same (place g i) y) (honest g i y below)) f j x low;
   sources = k.sources;
@@ -105,11 +117,12 @@ pub core_more : (v z : PartsView) (last : ℕ) (a : CoreView) (capacity u stamp 
     → length inlets ≡ length a.inlets
     → ((received : List Packet) → (AreOfClass a.config.top.clusters a.inlets → Brought a.config.top.clusters a.cluster received a.inlets) → AreOfClass a.config.top.clusters inlets → Brought a.config.top.clusters a.cluster (received ++ taken a.cluster u e) inlets)
     → ((received : List Packet) → NoneBeyond a.config.top.clusters received → NoneBeyond a.config.top.clusters (received ++ taken a.cluster u e))
-    → IsCore z stamp (record a { log = a.log ++ event_at a.cluster stamp e ∷ []; outlets = outlets; inlets = inlets; reserved = a.reserved - 1 }) capacity
+    → IsCore z stamp (record a { log = a.log ++ event_at a.cluster stamp e ∷ []; outlets = outlets; inlets = inlets; reserved = a.reserved - 1; weight = weight_left a.config a.cluster z }) capacity
 core_more v z last a capacity u stamp e ss outlets inlets k some few does sized is sends count brings sourced = record {
   sent = k.sent ++ map (packet stamp a.cluster) ss;
   received = k.received ++ taken a.cluster u e;
   local = local_more a.config a.cluster v z a.log last k.sent k.received e ss stamp u k.local does is;
+  weight = refl;
   carry = carry_more a.config.top.clusters a.cluster stamp k.sent ss a.outlets outlets k.carry sends;
   brought = brings k.received k.brought;
   sources = sourced k.received k.sources;
@@ -163,7 +176,7 @@ pub acted : {Z : Type 0} (v z : PartsView) (last : ℕ) (a : CoreView) (capacity
     → IsCore v last a capacity → 0 < a.reserved → is_take x ≡ false → last ≤ 18446744073709551615 → DoesChoice a.config a.cluster x e v z (option_to_list s) → AreSized a.config a.cluster z
     → stamp ≡ min (last + 1) 18446744073709551615 → lent ≡ a.outlets → length lent ≡ vec.len → Sends a.config.top.clusters stamp (option_to_list s) lent outlets
     → log ≡ a.log ++ event_at a.cluster stamp e ∷ [] → room ≡ capacity
-    → IsCore z stamp (record a { log = log; outlets = (with_items vec outlets).items; reserved = a.reserved - 1 }) room
+    → IsCore z stamp (record a { log = log; outlets = (with_items vec outlets).items; reserved = a.reserved - 1; weight = weight_left a.config a.cluster z }) room
 acted v z last a capacity room stamp x e s log vec lent outlets k some own fits does sized is lent_is len sends log_is room_is =
     let none : taken a.cluster 0 e ≡ [] = none_taken a.config a.cluster 0 x e own does.is_of in
     rw (log_is, room_is, ends_back vec lent outlets len sends.count)
@@ -173,10 +186,10 @@ acted v z last a capacity room stamp x e s log vec lent outlets k some own fits 
     (λ received before. subst (NoneBeyond a.config.top.clusters) (sym (ap (λ ps. received ++ ps) none ∙ append-nil received)) before))
 
 -- and what happened
-pub happened : {Z : Type 0} (v z : PartsView) (a : CoreView) (stamp : ℕ) (x : Choice) (e : Kind) (ss : List Sent) (log : List Event) (vec : Vec OutletView Z) (lent outlets : List OutletView) (inlets : List InletView)
+pub happened : {Z : Type 0} (v z : PartsView) (a : CoreView) (stamp : ℕ) (x : Choice) (e : Kind) (ss : List Sent) (log : List Event) (vec : Vec OutletView Z) (lent outlets : List OutletView) (inlets : List InletView) (weight : ℕ)
     → DoesChoice a.config a.cluster x e v z ss → lent ≡ a.outlets → length lent ≡ vec.len → Sends a.config.top.clusters stamp ss lent outlets → log ≡ a.log ++ event_at a.cluster stamp e ∷ []
-    → Happened x a (record a { log = log; outlets = (with_items vec outlets).items; inlets = inlets; reserved = a.reserved - 1 })
-happened v z a stamp x e ss log vec lent outlets inlets does lent_is len sends log_is = record {
+    → Happened x a (record a { log = log; outlets = (with_items vec outlets).items; inlets = inlets; reserved = a.reserved - 1; weight = weight })
+happened v z a stamp x e ss log vec lent outlets inlets weight does lent_is len sends log_is = record {
   event = e;
   stamp = stamp;
   is_of = does.is_of;
@@ -194,7 +207,7 @@ pub took : {Y Z : Type 0} (v z : PartsView) (last : ℕ) (a : CoreView) (capacit
     → borrowed ≡ a.inlets → length borrowed ≡ ins.len → at ≡ place from.0 j → OthersStay at borrowed inlets
     → ((x : InletView) → (slice_index_or inlets at x).received ≡ (slice_index_or borrowed at x).received ++ q ∷ [])
     → log ≡ a.log ++ event_at a.cluster stamp e ∷ [] → room ≡ capacity
-    → IsCore z stamp (record a { log = log; outlets = (with_items vec outlets).items; inlets = (with_items ins inlets).items; reserved = a.reserved - 1 }) room
+    → IsCore z stamp (record a { log = log; outlets = (with_items vec outlets).items; inlets = (with_items ins inlets).items; reserved = a.reserved - 1; weight = weight_left a.config a.cluster z }) room
 took v z last a capacity room stamp later at from j q e ss log vec lent outlets inlets ins borrowed k some low fits does sized few later_is is lent_is len sends borrowed_is count at_is others got log_is room_is =
     let stay : OthersStay (place from.0 j) a.inlets inlets = subst (λ n. OthersStay n a.inlets inlets) at_is (subst (λ os. OthersStay at os inlets) borrowed_is others) in
     let came : (x : InletView) → (slice_index_or inlets (place from.0 j) x).received ≡ (slice_index_or a.inlets (place from.0 j) x).received ++ q ∷ [] = λ x. subst (λ n. (slice_index_or inlets n x).received ≡ (slice_index_or a.inlets n x).received ++ q ∷ []) at_is (subst (λ os. (slice_index_or inlets at x).received ≡ (slice_index_or os at x).received ++ q ∷ []) borrowed_is (got x)) in
@@ -215,19 +228,19 @@ none_shown v last a capacity at from j inlets ins borrowed k borrowed_is count a
     (λ i x. at_or_not (λ n. (slice_index_or inlets n x).received ≡ (slice_index_or a.inlets n x).received) at i (at == i) refl (same x ∙ ap (λ os. (slice_index_or os at x).received) borrowed_is) (λ far. ap (λ (y : InletView). y.received) (others.others i x (λ e. far (sym e)) ∙ ap (λ os. slice_index_or os i x) borrowed_is))))
 
 -- and what happened then
-pub received : {Y Z : Type 0} (v z : PartsView) (a : CoreView) (stamp at : ℕ) (from : ClusterId) (j : Class) (q : Parcel) (e : Kind) (ss : List Sent) (log : List Event) (vec : Vec OutletView Z) (lent outlets : List OutletView) (inlets : List InletView) (ins : Vec InletView Y) (borrowed : List InletView)
+pub received : {Y Z : Type 0} (v z : PartsView) (a : CoreView) (stamp at : ℕ) (from : ClusterId) (j : Class) (q : Parcel) (e : Kind) (ss : List Sent) (log : List Event) (vec : Vec OutletView Z) (lent outlets : List OutletView) (inlets : List InletView) (ins : Vec InletView Y) (borrowed : List InletView) (weight : ℕ)
     → Took a.config a.cluster from q.msg v z e ss → lent ≡ a.outlets → length lent ≡ vec.len → Sends a.config.top.clusters stamp ss lent outlets
     → borrowed ≡ a.inlets → length borrowed ≡ ins.len → at ≡ place from.0 j → OthersStay at borrowed inlets
     → ((x : InletView) → (slice_index_or inlets at x).received ≡ (slice_index_or borrowed at x).received ++ q ∷ [])
     → ((x : InletView) → IsPrefix (slice_index_or borrowed at x).known (q ∷ (slice_index_or inlets at x).known))
     → log ≡ a.log ++ event_at a.cluster stamp e ∷ []
-    → Received from j a (record a { log = log; outlets = (with_items vec outlets).items; inlets = (with_items ins inlets).items; reserved = a.reserved - 1 })
+    → Received from j a (record a { log = log; outlets = (with_items vec outlets).items; inlets = (with_items ins inlets).items; reserved = a.reserved - 1; weight = weight })
 unfolding happened
-received v z a stamp at from j q e ss log vec lent outlets inlets ins borrowed does lent_is len sends borrowed_is count at_is others got next log_is =
+received v z a stamp at from j q e ss log vec lent outlets inlets ins borrowed weight does lent_is len sends borrowed_is count at_is others got next log_is =
     let back : (with_items ins inlets).items ≡ inlets = ends_back ins borrowed inlets count others.count in
     record {
       got = q;
-      happened = happened v z a stamp (choice.Take from (class_of q.msg)) e ss log vec lent outlets (with_items ins inlets).items does.does lent_is len sends log_is;
+      happened = happened v z a stamp (choice.Take from (class_of q.msg)) e ss log vec lent outlets (with_items ins inlets).items weight does.does lent_is len sends log_is;
       takes = does.takes q.stamp;
       next = λ x. subst (λ os. IsPrefix (slice_index_or a.inlets (place from.0 j) x).known (q ∷ (slice_index_or os (place from.0 j) x).known)) (sym back)
           (subst (λ n. IsPrefix (slice_index_or a.inlets n x).known (q ∷ (slice_index_or inlets n x).known)) at_is (subst (λ os. IsPrefix (slice_index_or os at x).known (q ∷ (slice_index_or inlets at x).known)) borrowed_is (next x)));
@@ -272,11 +285,12 @@ pub opened : (w : Config) (c : ℕ) (v : PartsView) (outlets : List OutletView) 
     → length outlets ≡ 2 * w.top.clusters → length inlets ≡ 2 * w.top.clusters
     → ((j : ℕ) (x : OutletView) → j < length outlets → (slice_index_or outlets j x).sent ≡ []) → ((j : ℕ) (x : InletView) → j < length inlets → (slice_index_or inlets j x).received ≡ [])
     → log ≡ []
-    → IsCore v 0 (record { config = w; cluster = c; log = log; outlets = outlets; inlets = inlets; reserved = 0 }) capacity
+    → IsCore v 0 (record { config = w; cluster = c; log = log; outlets = outlets; inlets = inlets; reserved = 0; weight = weight_left w c v }) capacity
 opened w c v outlets inlets log capacity mine opening count_out count_in unsent untaken log_is = rw log_is (record {
   sent = [];
   received = [];
   local = record { history = []; events = refl; ran = tt; shows = opening_shows w c v opening; last_is = refl; sent_is = sent_none w c; received_is = received_none c };
+  weight = refl;
   carry = λ d k x low. unsent (place d k) x (subst (λ n. place d k < n) (sym count_out) (within w.top.clusters d k low)) ∙ sym (no_parcels c d k);
   brought = λ honest f k x low. untaken (place f k) x (subst (λ n. place f k < n) (sym count_in) (within w.top.clusters f k low)) ∙ sym (no_parcels f c k);
   sources = none_beyond w.top.clusters;

@@ -1,6 +1,7 @@
 -- A core whose ends met others keeps what it keeps.
-use Rattle.std.proofs.Common.{◌≡◌, ℕ, ◌<◌, ◌≤◌, ◌==◌, List, length, slice_index_or, slice_set, refl, sym, ap, ◌∙◌, subst, arith}
-use Rattle.std.proofs.lemmas.List.{length-set, get_or-set_same, get_or-set_other, get_or_default, with_items_is}
+use Rattle.std.proofs.Common.{◌≡◌, ℕ, ◌<◌, ◌≤◌, ◌==◌, List, [], length, slice_index_or, slice_set, refl, sym, ap, ◌∙◌, subst, arith}
+use Rattle.std.proofs.lemmas.List.{length-set, get_or-set_same, get_or-set_other, get_or_default, with_items_is, append-nil}
+use mathlib.Core.List.{IsPrefix}
 use Rattle.std.specs.Prelude.{Vec}
 use Rattle.std.specs.Vec.{with_items}
 use Rattle.dash_msg.specs.declared.classes.Class.{Class}
@@ -24,13 +25,20 @@ flushed_at xs i d y low lane sent spare = record {
       (λ far. let a = ap (λ (z : OutletView). z.spare) (get_or-set_other xs i j y x (λ e. far (sym e))) in grind arith);
 }
 
-pub learned_at : (xs : List InletView) (i : ℕ) (d y : InletView) → i < length xs → y.lane ≡ (slice_index_or xs i d).lane → y.received ≡ (slice_index_or xs i d).received → Learned xs (slice_set xs i y)
-learned_at xs i d y low lane received = record {
+-- nothing more was learned
+all_known : (i : InletView) → IsPrefix i.known i.known
+all_known i = ([], append-nil i.known)
+
+pub learned_at : (xs : List InletView) (i : ℕ) (d y : InletView) → i < length xs → y.lane ≡ (slice_index_or xs i d).lane → y.received ≡ (slice_index_or xs i d).received → IsPrefix (slice_index_or xs i d).known y.known → Learned xs (slice_set xs i y)
+learned_at xs i d y low lane received known = record {
   count = length-set xs i y;
   lane = λ j x. at_or_not (λ n. (slice_index_or (slice_set xs i y) n x).lane ≡ (slice_index_or xs n x).lane) i j (i == j) refl
       (ap (λ (z : InletView). z.lane) (get_or-set_same xs i y x low) ∙ lane ∙ ap (λ (z : InletView). z.lane) (get_or_default xs i d x low)) (λ far. ap (λ (z : InletView). z.lane) (get_or-set_other xs i j y x (λ e. far (sym e))));
   received = λ j x. at_or_not (λ n. (slice_index_or (slice_set xs i y) n x).received ≡ (slice_index_or xs n x).received) i j (i == j) refl
       (ap (λ (z : InletView). z.received) (get_or-set_same xs i y x low) ∙ received ∙ ap (λ (z : InletView). z.received) (get_or_default xs i d x low)) (λ far. ap (λ (z : InletView). z.received) (get_or-set_other xs i j y x (λ e. far (sym e))));
+  known = λ j x. at_or_not (λ n. IsPrefix (slice_index_or xs n x).known (slice_index_or (slice_set xs i y) n x).known) i j (i == j) refl
+      (subst (λ (z : InletView). IsPrefix (slice_index_or xs i x).known z.known) (sym (get_or-set_same xs i y x low)) (subst (λ (z : InletView). IsPrefix z.known y.known) (get_or_default xs i d x low) known))
+      (λ far. subst (λ (z : InletView). IsPrefix (slice_index_or xs j x).known z.known) (sym (get_or-set_other xs i j y x (λ e. far (sym e)))) (all_known (slice_index_or xs j x)));
 }
 
 -- the two ends where they were set
@@ -44,6 +52,7 @@ core_met v last a capacity outlets inlets k flushed learned = record {
   sent = k.sent;
   received = k.received;
   local = k.local;
+  weight = k.weight;
   carry = λ d j x low. flushed.sent (place d j) x ∙ k.carry d j x low;
   brought = λ honest f j x low. learned.received (place f j) x ∙ k.brought (λ g i y below. subst (AllOfClass i) (learned.received (place g i) y) (honest g i y below)) f j x low;
   sources = k.sources;
@@ -57,7 +66,7 @@ core_met v last a capacity outlets inlets k flushed learned = record {
 }
 
 pub none_learned : (xs : List InletView) → Learned xs xs
-none_learned xs = record { count = refl; lane = λ j x. refl; received = λ j x. refl }
+none_learned xs = record { count = refl; lane = λ j x. refl; received = λ j x. refl; known = λ j x. all_known (slice_index_or xs j x) }
 
 pub none_flushed : (xs : List OutletView) → Flushed xs xs
 none_flushed xs = record { count = refl; lane = λ j x. refl; sent = λ j x. refl; spare = λ j x. grind arith }

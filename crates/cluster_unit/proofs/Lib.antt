@@ -5,6 +5,8 @@ pub mod FreshUnits
 pub mod OnePart
 pub mod Looking
 pub mod Cores
+pub mod LastStep
+pub mod Lighter
 pub mod TakesListed
 pub mod Listed
 pub mod Turning

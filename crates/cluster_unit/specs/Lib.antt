@@ -21,3 +21,4 @@ pub mod Wiring
 pub mod Picking
 pub mod Acting
 pub mod Quiet
+pub mod Weight

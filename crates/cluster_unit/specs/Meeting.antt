@@ -1,5 +1,6 @@
 -- What two units know of a lane between them, where its two ends meet.
 use Rattle.std.specs.Prelude.{◌≡◌, ℕ, ◌+◌, ◌<◌, ◌≤◌, List, ◌++◌, length, slice_index_or}
+use mathlib.Core.List.{IsPrefix}
 use Rattle.dash_msg.specs.declared.classes.Class.{Class}
 use Rattle.mesh_lanes.specs.View.{OutletView, InletView}
 use Rattle.cluster_unit.specs.View.{CoreView}
@@ -12,11 +13,12 @@ pub record Flushed (old new : List OutletView) : Type 0 where
   pub sent : (j : ℕ) (x : OutletView) → (slice_index_or new j x).sent ≡ (slice_index_or old j x).sent
   pub spare : (j : ℕ) (x : OutletView) → (slice_index_or old j x).spare ≤ (slice_index_or new j x).spare
 
--- ends that receive learned of more: what was received stays
+-- ends that receive learned of more: what was received stays, and what was known still is
 pub record Learned (old new : List InletView) : Type 0 where
   pub count : length new ≡ length old
   pub lane : (j : ℕ) (x : InletView) → (slice_index_or new j x).lane ≡ (slice_index_or old j x).lane
   pub received : (j : ℕ) (x : InletView) → (slice_index_or new j x).received ≡ (slice_index_or old j x).received
+  pub known : (j : ℕ) (x : InletView) → IsPrefix (slice_index_or old j x).known (slice_index_or new j x).known
 
 -- the two ends of a lane, which has this many messages: what was received, what is in the ring and what waits is what was sent; and where it has any, the next taking gives one
 pub record EndsMet (count : ℕ) (out : OutletView) (inlet : InletView) : Type 0 where

@@ -17,3 +17,4 @@ pub record Reserved (a b : CoreView) : Type 0 where
   pub inlets : b.inlets ≡ a.inlets
   pub outlets : HaveMore a.outlets b.outlets
   pub more : a.reserved ≤ b.reserved
+  pub weight : b.weight ≡ a.weight

@@ -4,7 +4,7 @@ use Rattle.dash_event.specs.declared.event.Event.{Event}
 use Rattle.mesh_lanes.specs.View.{OutletView, InletView}
 use Rattle.dash_model.specs.Config.{Config}
 
--- what it runs, as which cluster; what happened there so far; the ends of its lanes; and for how many turns it has memory
+-- what it runs, as which cluster; what happened there so far; the ends of its lanes; for how many turns it has memory; and the weight of what it has left to settle
 pub record CoreView : Type 0 where
   pub config : Config
   pub cluster : ℕ
@@ -12,3 +12,4 @@ pub record CoreView : Type 0 where
   pub outlets : List OutletView
   pub inlets : List InletView
   pub reserved : ℕ
+  pub weight : ℕ

@@ -45,7 +45,7 @@ impl Unit {
         requires inlets { length inlets.items ≡ 2 * site.topology.clusters }
         requires unsent { (j : ℕ) (x : OutletView) → j < length outlets.items → (slice_index_or outlets.items j x).sent ≡ [] }
         requires untaken { (j : ℕ) (x : InletView) → j < length inlets.items → (slice_index_or inlets.items j x).received ≡ [] }
-        ensures core { IfOk result (λ unit. unit.core ≡ record { config = config site; cluster = site.cluster.0; log = []; outlets = outlets.items; inlets = inlets.items; reserved = 0 }) }
+        ensures core { IfOk result (λ unit. unit.core ≡ record { config = config site; cluster = site.cluster.0; log = []; outlets = outlets.items; inlets = inlets.items; reserved = 0; weight = unit.core.weight }) }
         ensures chooser { IfOk result (λ unit. (unit.chooser.boxed ≡ arbiter) × (unit.chooser.rotate ≡ 0)) }
         ensures counts { IfOk result (λ unit. (unit.turns ≡ 0) × (unit.steps ≡ 0) × (unit.ahead ≡ 0)) }
     {

@@ -3,7 +3,7 @@ ghost use Rattle.std.specs.Prelude.{◌≡◌, ℕ, ◌*◌, ◌<◌, ◌≤◌,
 ghost use Rattle.mesh_lanes.specs.View.{OutletView, InletView};
 ghost use Rattle.dash_model.specs.Part.{Part};
 ghost use Rattle.unit_rows.specs.Shown.{config, hart_at};
-ghost use Rattle.cluster_unit.specs.Core.{HasRun, IsAt};
+ghost use Rattle.cluster_unit.specs.Core.{HasRun, IsAt, IsWeighed};
 
 use dash_base::OutOfMemory;
 use dash_event::Event;
@@ -14,7 +14,7 @@ use std::marker::Model;
 use unit_rows::{Parts, Site, opening_parts};
 
 /// The core of a unit. Contracts see what it runs and as which cluster, its log, the ends of its lanes,
-/// and for how many turns it has memory. Whatever is called and whatever the lanes bring, its log is
+/// for how many turns it has memory, and the weight of what it has left to settle. Whatever is called and whatever the lanes bring, its log is
 /// that of a run of its cluster by itself, as `has_run` tells.
 #[derive(Drop)]
 pub struct Core {
@@ -34,6 +34,7 @@ impl Model for Core {
     ghost Value = { CoreView };
 
     ghost use Rattle.unit_rows.specs.Shown.{shown};
+    ghost use Rattle.unit_rows.specs.Left.{weight_left};
     ghost use Rattle.cluster_unit.specs.Core.{IsCore};
 
     ghost view = { λ c. record {
@@ -43,6 +44,7 @@ impl Model for Core {
       outlets = c.outlets.items;
       inlets = c.inlets.items;
       reserved = c.reserved;
+      weight = weight_left (record { image = c.site.image; top = c.site.topology }) c.site.cluster.0 (shown c.parts);
     } };
 
     ghost invariant = { λ c. IsCore (shown c.parts) c.last (record {
@@ -52,6 +54,7 @@ impl Model for Core {
       outlets = c.outlets.items;
       inlets = c.inlets.items;
       reserved = c.reserved;
+      weight = weight_left (record { image = c.site.image; top = c.site.topology }) c.site.cluster.0 (shown c.parts);
     }) (vec_capacity c.log) };
 }
 
@@ -68,7 +71,7 @@ impl Core {
         requires inlets { length inlets.items ≡ 2 * site.topology.clusters }
         requires unsent { (j : ℕ) (x : OutletView) → j < length outlets.items → (slice_index_or outlets.items j x).sent ≡ [] }
         requires untaken { (j : ℕ) (x : InletView) → j < length inlets.items → (slice_index_or inlets.items j x).received ≡ [] }
-        ensures { IfOk result (λ core. core ≡ record { config = config site; cluster = site.cluster.0; log = []; outlets = outlets.items; inlets = inlets.items; reserved = 0 }) }
+        ensures { IfOk result (λ core. core ≡ record { config = config site; cluster = site.cluster.0; log = []; outlets = outlets.items; inlets = inlets.items; reserved = 0; weight = core.weight }) }
     {
         let parts = opening_parts(alloc, &site)?;
         Ok(Core {
@@ -82,9 +85,11 @@ impl Core {
         })
     }
 
-    /// Its log is a run of its cluster by itself, and its lanes carry what that run sent and took.
+    /// Its log is a run of its cluster by itself, its lanes carry what that run sent and took, and its
+    /// weight is that of the part of the machine that the run leads to.
     pub fn has_run(&self)
-        ensures { HasRun self.now }
+        ensures run { HasRun self.now }
+        ensures weight { IsWeighed self.now }
     {
         let _log = &self.log;
     }

@@ -45,7 +45,7 @@ total_none f (suc n) h =
     let rest = total_none f n (λ i l. h i (omega arith)) in
     omega arith
 
-last_or_below : (k n : ℕ) → k < suc n → (k ≡ n) ⊎ (k < n)
+pub last_or_below : (k n : ℕ) → k < suc n → (k ≡ n) ⊎ (k < n)
 last_or_below k n l = grind (arith, nat_tests)
 
 less_differs : (k i : ℕ) → i < k → k ≢ i

@@ -15,3 +15,4 @@ pub use Rattle.unit_rows.proofs.AgainRow.{not_refused}
 pub use Rattle.unit_rows.proofs.InstallFits.{not_come}
 pub use Rattle.unit_rows.proofs.LockWords.{own_of}
 pub use Rattle.unit_rows.proofs.Resting.{rest_cannot, needs_now}
+pub use Rattle.unit_rows.proofs.Left.{left_is}

@@ -68,4 +68,5 @@ pub mod CanSteps
 pub mod OutOfRange
 pub mod OpeningStores
 pub mod Ready
+pub mod Left
 pub mod LawsOffered

@@ -20,3 +20,4 @@ pub mod Hints
 pub mod EvictFits
 pub mod AskFits
 pub mod StepFits
+pub mod Left

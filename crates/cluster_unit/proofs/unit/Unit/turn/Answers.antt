@@ -9,5 +9,5 @@ returns-then-is_empty-clause-turned g c =
 
 pub returns-clause-turned : goal.returns-clause-turned
 returns-clause-turned g c =
-    turned_one _ _ c.list.new.choices.items c.perform.result c.args.self.now.core c.list.new.self c.perform.new.self c.len.result c.choose-number.result c.index-choice.result.now c.list.ensures.lists c.has_run.ensures (c.len.ensures ∙ c.list.new.choices.ok.0) c.choose-number.ensures.below
+    turned_one _ _ c.list.new.choices.items c.perform.result c.args.self.now.core c.list.new.self c.perform.new.self c.len.result c.choose-number.result c.index-choice.result.now c.list.ensures.lists c.has_run.ensures.run (c.len.ensures ∙ c.list.new.choices.ok.0) c.choose-number.ensures.below
     (picked _ c.args.self.now.chooser.boxed c.choose-number.new.self.boxed c.args.self.now.chooser.rotate c.choose-number.new.self.rotate c.len.result c.choose-number.result _ _ c.choose-number.ensures.below c.choose-number.ensures.rotates c.choose-number.ensures.picks c.choose-number.ensures.retires) c.index-choice.ensures c.perform.ensures

@@ -5,4 +5,4 @@ pub returns-in_default : goal.returns-in_default
 returns-in_default c = (c.in_default.ensures, c.spend.ensures)
 
 pub returns : goal.returns
-returns c = stepped_one c.args.hart c.perform.result c.args.self.now c.perform.new.self c.in-Some.choice c.in-Some.ensures c.has_run.ensures c.perform.ensures
+returns c = stepped_one c.args.hart c.perform.result c.args.self.now c.perform.new.self c.in-Some.choice c.in-Some.ensures c.has_run.ensures.run c.perform.ensures
