@@ -1,8 +1,11 @@
 -- Lists of units that change one by one.
-use Rattle.std.proofs.Common.{◌≡◌, ◌≢◌, ℕ, ◌<◌, ◌==◌, Bool, true, false, List, length, slice_index_or, slice_set, refl, sym, ap, ◌∙◌, subst, arith}
+use Rattle.std.proofs.Common.{◌≡◌, ◌≢◌, ℕ, ◌<◌, ◌==◌, Bool, true, false, List, [], length, slice_index_or, slice_set, refl, sym, ap, ◌∙◌, subst, arith}
 use Rattle.std.proofs.lemmas.Bool.Decides.{nat_tests}
-use Rattle.std.proofs.lemmas.List.{length-set, get_or-set_same, get_or-set_other, get_or_default}
+use Rattle.std.proofs.lemmas.List.{length-set, get_or-set_same, get_or-set_other, get_or_default, append-nil}
+use mathlib.Core.List.{IsPrefix}
 use Rattle.dash_base.specs.declared.topology.Topology.{Topology}
+use Rattle.mesh_lanes.specs.View.{InletView}
+use Rattle.mesh_lanes.proofs.LawsOffered.{prefix_then}
 use Rattle.dash_model.specs.Part.{opening_part}
 use Rattle.dash_model.specs.LocalRun.{IsLocalRun, part_at}
 use Rattle.unit_rows.specs.declared.choice.Choice.TheVariants.{Grant}
@@ -32,15 +35,22 @@ counts_again a = record { same = same_again a; turns = refl; steps = refl; ahead
 pub counts_then : (a b c : UnitView) → HasCounts a b → HasCounts b c → HasCounts a c
 counts_then a b c f g = record { same = same_then a b c f.same g.same; turns = g.turns ∙ f.turns; steps = g.steps ∙ f.steps; ahead = g.ahead ∙ f.ahead }
 
+pub known_again : (i : InletView) → IsPrefix i.known i.known
+known_again i = ([], append-nil i.known)
+
 pub met_again : (a : UnitView) → OnlyMet a a
-met_again a = record { counts = counts_again a; log = refl; sent = λ j x. refl; received = λ j x. refl }
+met_again a = record { counts = counts_again a; log = refl; weight = refl; outlets = refl; inlets = refl; sent = λ j x. refl; received = λ j x. refl; known = λ j x. known_again (slice_index_or a.core.inlets j x) }
 
 pub met_then : (a b c : UnitView) → OnlyMet a b → OnlyMet b c → OnlyMet a c
 met_then a b c f g = record {
   counts = counts_then a b c f.counts g.counts;
   log = g.log ∙ f.log;
+  weight = g.weight ∙ f.weight;
+  outlets = g.outlets ∙ f.outlets;
+  inlets = g.inlets ∙ f.inlets;
   sent = λ j x. g.sent j x ∙ f.sent j x;
   received = λ j x. g.received j x ∙ f.received j x;
+  known = λ j x. prefix_then (slice_index_or a.core.inlets j x).known (slice_index_or b.core.inlets j x).known (slice_index_or c.core.inlets j x).known (f.known j x) (g.known j x);
 }
 
 module _ {U : Type 0} (view : U → UnitView) where
@@ -91,13 +101,6 @@ pub counts_same : (a b : UnitView) → HasCounts a b → IsSame a.core b.core
 counts_same a b f = f.same
 
 module _ {U : Type 0} (view : U → UnitView) where
-  pub counts_met : (us vs ws xs : List U) → Each view HasCounts us vs → Each view HasCounts vs ws → Each view OnlyMet ws xs → Each view HasCounts us xs
-  counts_met us vs ws xs f g h =
-      each_then view HasCounts HasCounts HasCounts us ws xs counts_then (each_then view HasCounts HasCounts HasCounts us vs ws counts_then f g) (each_weaker view OnlyMet HasCounts ws xs met_counts h)
-
-  pub mesh_counts : (t : Topology) (us vs ws : List U) → Each view HasCounts us vs → Each view HasCounts vs ws → IsMesh view t us → IsMesh view t ws
-  mesh_counts t us vs ws f g = mesh_stays view t us ws (each_weaker view HasCounts (λ a b. IsSame a.core b.core) us ws counts_same (each_then view HasCounts HasCounts HasCounts us vs ws counts_then f g))
-
   -- where units only meet, none that granted nothing grants
   pub none_grants_met : (us vs : List U) → Each view OnlyMet us vs → NoneGrants view us → NoneGrants view vs
   none_grants_met us vs f none c d low i p at able =

@@ -46,7 +46,7 @@ same_looked a b same looked = record {
   inlets = looked.lane;
 }
 
-uses_spent : (a b : CoreView) → b ≡ spent a → UsesTurn a b
+pub uses_spent : (a b : CoreView) → b ≡ spent a → UsesTurn a b
 uses_spent a b is = subst (UsesTurn a) (sym is) (record { same = record { config = refl; cluster = refl; outlets = λ j x. refl; inlets = λ j x. refl }; reserved = refl })
 
 uses_happened : (x : Choice) (a b : CoreView) → Happened x a b → ((j : ℕ) (y : InletView) → (slice_index_or b.inlets j y).lane ≡ (slice_index_or a.inlets j y).lane) → UsesTurn a b

@@ -9,3 +9,5 @@ pub mod LaneEnds
 pub mod HartEnds
 pub mod Endings
 pub mod RoundsCounted
+pub mod Weights
+pub mod Shown

@@ -1,6 +1,7 @@
 -- Two units that met, among all.
 use Rattle.std.proofs.Common.{◌≡◌, ℕ, ◌+◌, ◌-◌, ◌<◌, List, [], ◌∷◌, ◌++◌, length, slice_index_or, slice_set, refl, sym, ap, ◌∙◌, subst, arith}
 use Rattle.std.proofs.lemmas.List.{length-set, length-append, get_or-set_same, get_or-set_other, set-append_left, set-append_right, append-nil, get_or_append_left, get_or-append-add}
+use mathlib.Core.List.{IsPrefix}
 use Rattle.dash_base.specs.declared.topology.Topology.{Topology}
 use Rattle.dash_msg.specs.declared.classes.Class.{Class}
 use Rattle.dash_msg.specs.declared.classes.Class.TheVariants.{Request, Reply}
@@ -9,7 +10,7 @@ use Rattle.cluster_unit.specs.View.{CoreView}
 use Rattle.cluster_unit.specs.Ends.{place}
 use Rattle.cluster_unit.specs.Meeting.{Flushed, Learned, EndsMet, Met}
 use Rattle.round_run.specs.Units.{UnitView, OnlyMet, Each, IsMesh, IsMet, IsEmptied}
-use Rattle.round_run.proofs.Eaches.{each_then, each_at, met_again, met_then}
+use Rattle.round_run.proofs.Eaches.{each_then, each_at, known_again, met_again, met_then}
 
 -- a core whose ends that send were flushed, or whose ends that receive learned of more
 pub only_flushed : (a b : UnitView) → Flushed a.core.outlets b.core.outlets → b.core ≡ record a.core { outlets = b.core.outlets } → b.turns ≡ a.turns → b.steps ≡ a.steps → b.ahead ≡ a.ahead → OnlyMet a b
@@ -21,8 +22,12 @@ only_flushed a b flushed same turns steps ahead = record {
     ahead = ahead;
   };
   log = ap (λ (z : CoreView). z.log) same;
+  weight = ap (λ (z : CoreView). z.weight) same;
+  outlets = flushed.count;
+  inlets = ap (λ (z : CoreView). length z.inlets) same;
   sent = flushed.sent;
   received = λ j x. ap (λ (z : CoreView). (slice_index_or z.inlets j x).received) same;
+  known = λ j x. subst (λ (z : CoreView). IsPrefix (slice_index_or a.core.inlets j x).known (slice_index_or z.inlets j x).known) (sym same) (known_again (slice_index_or a.core.inlets j x));
 }
 
 pub only_learned : (a b : UnitView) → Learned a.core.inlets b.core.inlets → b.core ≡ record a.core { inlets = b.core.inlets } → b.turns ≡ a.turns → b.steps ≡ a.steps → b.ahead ≡ a.ahead → OnlyMet a b
@@ -34,8 +39,12 @@ only_learned a b learned same turns steps ahead = record {
     ahead = ahead;
   };
   log = ap (λ (z : CoreView). z.log) same;
+  weight = ap (λ (z : CoreView). z.weight) same;
+  outlets = ap (λ (z : CoreView). length z.outlets) same;
+  inlets = learned.count;
   sent = λ j x. ap (λ (z : CoreView). (slice_index_or z.outlets j x).sent) same;
   received = learned.received;
+  known = learned.known;
 }
 
 -- a core that met itself
@@ -48,8 +57,12 @@ only_both a b flushed learned same turns steps ahead = record {
     ahead = ahead;
   };
   log = ap (λ (z : CoreView). z.log) same;
+  weight = ap (λ (z : CoreView). z.weight) same;
+  outlets = flushed.count;
+  inlets = learned.count;
   sent = flushed.sent;
   received = learned.received;
+  known = learned.known;
 }
 
 -- the ends that met stand by the clusters
@@ -57,16 +70,6 @@ pub placed : (k : Class) (n : ℕ) (a b : CoreView) (i j : ℕ) → a.cluster �
 placed k n a b i j at_a at_b met x y =
     subst (λ c. EndsMet n (slice_index_or a.outlets (place c k) x) (slice_index_or b.inlets (place i k) y)) at_b
     (subst (λ c. EndsMet n (slice_index_or a.outlets (place b.cluster k) x) (slice_index_or b.inlets (place c k) y)) at_a (met.ends x y))
-
-nothing : {X : Type 0} (xs : List X) → length xs ≡ 0 → xs ≡ []
-nothing [] e = refl
-nothing (x ∷ xs) e = absurd (omega arith)
-
-none_left : (o : OutletView) (n : InletView) → EndsMet 0 o n → o.sent ≡ n.received
-none_left o n m =
-    let none_waits = nothing o.spool (let c = m.count_is in omega arith) in
-    let none_known = nothing n.known (let c = m.count_is in omega arith) in
-    sym m.met ∙ ap (λ l. (n.received ++ n.known) ++ l) none_waits ∙ append-nil _ ∙ ap (λ l. n.received ++ l) none_known ∙ append-nil _
 
 -- a list that was cut in two, where one element of each part was set
 module _ {U : Type 0} (xs ys : List U) (i : ℕ) (u v : U) where
@@ -152,17 +155,6 @@ module _ {U : Type 0} (view : U → UnitView) where
         ends_met (slice_set us i u) k n i i u u (λ e. get_or-set_same us i u e low) (λ e. get_or-set_same us i u e low) (placed k n (view u).core (view u).core i i here here met),
       )
 
-  -- lanes of both classes without messages are emptied, where that of requests was met before that of replies
-  pub emptied : (us vs ws : List U) (i j n m : ℕ) → i < length us → j < length us → IsMet view Request n i j vs → Each view OnlyMet us vs → Each view OnlyMet vs ws → IsMet view Reply m i j ws → n ≡ 0 → m ≡ 0 → IsEmptied view ws i j
-  emptied us vs ws i j n m low below requests first later replies none none' Request d e x y =
-      let lower : i < length vs = subst (λ l. i < l) (sym first.count) low in
-      let under : j < length vs = subst (λ l. j < l) (sym first.count) below in
-      (later.each i d lower).sent (place j Request) x
-      ∙ none_left _ _ (subst (λ l. EndsMet l (slice_index_or (view (slice_index_or vs i d)).core.outlets (place j Request) x) (slice_index_or (view (slice_index_or vs j e)).core.inlets (place i Request) y)) none (requests d e x y))
-      ∙ sym ((later.each j e under).received (place i Request) y)
-  emptied us vs ws i j n m low below requests first later replies none none' Reply d e x y =
-      none_left _ _ (subst (λ l. EndsMet l (slice_index_or (view (slice_index_or ws i d)).core.outlets (place j Reply) x) (slice_index_or (view (slice_index_or ws j e)).core.inlets (place i Reply) y)) none' (replies d e x y))
-
-  -- and stays so where units only meet
+  -- what is emptied stays so where units only meet
   pub emptied_stays : (us vs : List U) (i j : ℕ) → Each view OnlyMet us vs → i < length us → j < length us → IsEmptied view us i j → IsEmptied view vs i j
   emptied_stays us vs i j f low below was k d e x y = (f.each i d low).sent (place j k) x ∙ was k d e x y ∙ sym ((f.each j e below).received (place i k) y)

@@ -5,3 +5,4 @@ pub mod Serial
 pub mod Stamps
 pub mod Ending
 pub mod Finished
+pub mod Weight

@@ -1,7 +1,9 @@
 -- The units of a machine, side by side. All is said of lists of any type, by what is seen of an element.
-use Rattle.std.specs.Prelude.{◌≡◌, ℕ, ◌<◌, ◌≤◌, List, length, slice_index_or}
+use Rattle.std.specs.Prelude.{◌≡◌, ◌⊎◌, ℕ, ◌<◌, ◌≤◌, List, [], ◌++◌, length, slice_index_or}
+use mathlib.Core.List.{IsPrefix}
 use Rattle.dash_base.specs.declared.topology.Topology.{Topology}
 use Rattle.dash_msg.specs.declared.classes.Class.{Class}
+use Rattle.dash_msg.specs.declared.parcel.Parcel.{Parcel}
 use Rattle.mesh_lanes.specs.View.{OutletView, InletView}
 use Rattle.dash_model.specs.Part.{Part}
 use Rattle.unit_rows.specs.declared.choice.Choice.TheVariants.{Grant}
@@ -36,12 +38,26 @@ pub record HasCounts (a b : UnitView) : Type 0 where
   pub steps : b.steps ≡ a.steps
   pub ahead : b.ahead ≡ a.ahead
 
--- and nothing happened there: its log stands, and what its ends sent and received
+-- and nothing happened there: its log stands, what its ends sent and received, and what is left to settle; what was known still is
 pub record OnlyMet (a b : UnitView) : Type 0 where
   pub counts : HasCounts a b
   pub log : b.core.log ≡ a.core.log
+  pub weight : b.core.weight ≡ a.core.weight
+  pub outlets : length b.core.outlets ≡ length a.core.outlets
+  pub inlets : length b.core.inlets ≡ length a.core.inlets
   pub sent : (j : ℕ) (x : OutletView) → (slice_index_or b.core.outlets j x).sent ≡ (slice_index_or a.core.outlets j x).sent
   pub received : (j : ℕ) (x : InletView) → (slice_index_or b.core.inlets j x).received ≡ (slice_index_or a.core.inlets j x).received
+  pub known : (j : ℕ) (x : InletView) → IsPrefix (slice_index_or a.core.inlets j x).known (slice_index_or b.core.inlets j x).known
+
+-- the two ends of a lane met since: what was received begins what was sent, and where there is more the receiving end knows of some
+pub record IsShown (out : OutletView) (inlet : InletView) : Type 0 where
+  pub rest : List Parcel
+  pub begins : inlet.received ++ rest ≡ out.sent
+  pub known : (rest ≡ []) ⊎ (0 < length inlet.known)
+
+-- no lane into it shows a message
+abbrev pub ShowsNone : CoreView → Type 0
+ShowsNone a = (f : ℕ) (k : Class) (y : InletView) → f < a.config.top.clusters → (slice_index_or a.inlets (place f k) y).known ≡ []
 
 -- no lock word of its home can be granted
 abbrev pub NoneToGrant : CoreView → Type 0
@@ -64,6 +80,15 @@ module _ {U : Type 0} (view : U → UnitView) where
   abbrev pub IsMet : Class → ℕ → ℕ → ℕ → List U → Type 0
   IsMet k count a b us = (d e : U) (x : OutletView) (y : InletView)
       → EndsMet count (slice_index_or (view (slice_index_or us a d)).core.outlets (place b k) x) (slice_index_or (view (slice_index_or us b e)).core.inlets (place a k) y)
+
+  -- the ends of each lane from unit a to unit b met since
+  abbrev pub HaveMet : List U → ℕ → ℕ → Type 0
+  HaveMet us a b = (k : Class) (d e : U) (x : OutletView) (y : InletView)
+      → IsShown (slice_index_or (view (slice_index_or us a d)).core.outlets (place b k) x) (slice_index_or (view (slice_index_or us b e)).core.inlets (place a k) y)
+
+  -- and of each to each other
+  abbrev pub AllHaveMet : List U → Type 0
+  AllHaveMet us = (a b : ℕ) → a < length us → b < length us → HaveMet us a b
 
   -- all that unit a sent to unit b was received
   abbrev pub IsEmptied : List U → ℕ → ℕ → Type 0

@@ -1,50 +1,44 @@
 //! The lanes between the units of a machine, where no thread works on them.
-ghost use Rattle.std.specs.Prelude.{◌≡◌, ℕ, ◌<◌, ◌≤◌, IsTrue, length, slice_index_or};
-ghost use Rattle.round_run.specs.Units.{seen, OnlyMet, Each, IsMesh, IsMet, IsEmptied, AreEmptied};
+ghost use Rattle.std.specs.Prelude.{◌≡◌, ℕ, ◌<◌, ◌≤◌, length, slice_index_or};
+ghost use Rattle.round_run.specs.Units.{seen, OnlyMet, Each, IsMesh, IsMet, HaveMet, AllHaveMet};
 
 use cluster_unit::{Unit, meet_units};
 use dash_base::Topology;
 use dash_msg::Class;
 
-/// Lets all units meet: the two ends of each lane look at each other, and what waits is moved on. The answer
-/// is whether all lanes are empty.
-pub fn meet_all(topology: &Topology, units: &mut [Unit]) -> bool
+/// Lets all units meet: the two ends of each lane look at each other, and what waits is moved on.
+pub fn meet_all(topology: &Topology, units: &mut [Unit])
     requires mesh { IsMesh (λ u. seen u.core u.turns u.steps u.ahead) topology.now units.old }
     ensures met { Each (λ u. seen u.core u.turns u.steps u.ahead) OnlyMet units.old units.new }
-    ensures emptied { IsTrue result → AreEmptied (λ u. seen u.core u.turns u.steps u.ahead) units.new }
+    ensures shown { AllHaveMet (λ u. seen u.core u.turns u.steps u.ahead) units.new }
 {
-    let mut empty = true;
     for source in 0..units.len() {
-        empty &= meet_row(topology, units, source);
+        meet_row(topology, units, source);
     }
-    empty
 }
 
 /// Lets a unit that sends meet all that receive.
-fn meet_row(topology: &Topology, units: &mut [Unit], source: usize) -> bool
+fn meet_row(topology: &Topology, units: &mut [Unit], source: usize)
     requires source { source < length units.old }
     requires mesh { IsMesh (λ u. seen u.core u.turns u.steps u.ahead) topology.now units.old }
     ensures met { Each (λ u. seen u.core u.turns u.steps u.ahead) OnlyMet units.old units.new }
-    ensures emptied { IsTrue result → (b : ℕ) → b < length units.new → IsEmptied (λ u. seen u.core u.turns u.steps u.ahead) units.new source b }
+    ensures shown { (b : ℕ) → b < length units.new → HaveMet (λ u. seen u.core u.turns u.steps u.ahead) units.new source b }
 {
-    let mut empty = true;
     for target in 0..units.len() {
-        empty &= meet_pair(topology, units, source, target);
+        meet_pair(topology, units, source, target);
     }
-    empty
 }
 
 /// Lets a unit that sends meet one that receives, by the lanes of both classes.
-fn meet_pair(topology: &Topology, units: &mut [Unit], source: usize, target: usize) -> bool
+fn meet_pair(topology: &Topology, units: &mut [Unit], source: usize, target: usize)
     requires source { source < length units.old }
     requires target { target < length units.old }
     requires mesh { IsMesh (λ u. seen u.core u.turns u.steps u.ahead) topology.now units.old }
     ensures met { Each (λ u. seen u.core u.turns u.steps u.ahead) OnlyMet units.old units.new }
-    ensures emptied { IsTrue result → IsEmptied (λ u. seen u.core u.turns u.steps u.ahead) units.new source target }
+    ensures shown { HaveMet (λ u. seen u.core u.turns u.steps u.ahead) units.new source target }
 {
-    let requests = meet_lane(topology, units, source, target, Class::Request);
-    let replies = meet_lane(topology, units, source, target, Class::Reply);
-    requests == 0 && replies == 0
+    meet_lane(topology, units, source, target, Class::Request);
+    meet_lane(topology, units, source, target, Class::Reply);
 }
 
 /// Lets a unit that sends meet one that receives, by the lane of one class. The answer is how many messages

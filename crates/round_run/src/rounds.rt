@@ -61,7 +61,7 @@ pub fn run_rounds<R: Threads + Wait + Sync, G: Gate>(
 
 /// A round: the units work on threads of their own, then the machine settles, and then harts do steps alone.
 /// The answer is whether a hart got on in these.
-fn round<R: Threads + Wait + Sync, G: Gate>(
+fn round<R: Threads + Sync, G: Gate>(
     rt: &R,
     gate: &G,
     topology: &Topology,
@@ -79,7 +79,7 @@ fn round<R: Threads + Wait + Sync, G: Gate>(
 }
 
 /// The same of units side by side.
-fn round_of<R: Threads + Wait + Sync, G: Gate>(
+fn round_of<R: Threads + Sync, G: Gate>(
     rt: &R,
     gate: &G,
     topology: &Topology,
@@ -96,9 +96,9 @@ fn round_of<R: Threads + Wait + Sync, G: Gate>(
     reserve_all(units)?;
     work_all(rt, gate, rounds, units);
     check_stamps(units)?;
-    settle(rt, topology, units)?;
+    settle(topology, units)?;
     let first = (rounds % u64::from(topology.hart_count())) as u32;
-    serial_turn(rt, topology, units, first)
+    serial_turn(topology, units, first)
 }
 
 impl Machine {

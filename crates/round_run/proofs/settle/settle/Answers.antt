@@ -1,21 +1,33 @@
-use Rattle.round_run.specs.Units.{seen, HasCounts}
-use Rattle.round_run.proofs.Eaches.{each_again, each_then, counts_again, counts_then, counts_met, mesh_counts, none_grants_met}
+use Rattle.round_run.specs.Units.{seen}
+use Rattle.round_run.specs.Weight.{IsEased}
+use Rattle.round_run.proofs.Eaches.{each_again, each_then}
+use Rattle.round_run.proofs.Weights.{eased_again, eased_then, eased_met, met_eased_counts, mesh_counted, pass_falls, rested_emptied, rested_grants}
 use Rattle.round_run.proofs.settle.settle.Goals as goal
 
-pub loop-pass-init : goal.loop-pass-init
-loop-pass-init g c = each_again (λ u. seen u.core u.turns u.steps u.ahead) HasCounts _ counts_again
+pub loop-units-init : goal.loop-units-init
+loop-units-init g c = (each_again (λ u. seen u.core u.turns u.steps u.ahead) IsEased _ eased_again, c.meet_all.ensures.shown)
 
-pub loop-pass-preserved : goal.loop-pass-preserved
-loop-pass-preserved g c = counts_met (λ u. seen u.core u.turns u.steps u.ahead) _ _ _ _ c.loop-pass.invariant c.step_each.ensures.counts c.meet_all-empty.ensures.met
+pub loop-units-preserved : goal.loop-units-preserved
+loop-units-preserved g c = (
+  each_then (λ u. seen u.core u.turns u.steps u.ahead) IsEased IsEased IsEased _ _ _ eased_then c.loop-units.invariant.0 (eased_met (λ u. seen u.core u.turns u.steps u.ahead) _ _ _ c.settle_each.ensures.eased c.meet_all-in-loop-units.ensures.met),
+  c.meet_all-in-loop-units.ensures.shown,
+)
 
-pub meet_all-empty-requires : goal.meet_all-empty-requires
-meet_all-empty-requires g c = record { mesh = mesh_counts (λ u. seen u.core u.turns u.steps u.ahead) _ _ _ _ c.loop-pass.invariant c.step_each.ensures.counts c.requires.mesh }
+pub loop-units-smaller : goal.loop-units-smaller
+loop-units-smaller g c =
+    let counts = met_eased_counts (λ u. seen u.core u.turns u.steps u.ahead) _ _ _ c.meet_all.ensures.met c.loop-units.invariant.0 in
+    let mesh = mesh_counted (λ u. seen u.core u.turns u.steps u.ahead) c.args.topology.now _ _ counts c.requires.mesh in
+    pass_falls (λ u. seen u.core u.turns u.steps u.ahead) c.args.topology.now c.loop-units.units c.settle_each.new.units c.meet_all-in-loop-units.new.units mesh c.loop-units.invariant.1
+    c.settle_each.ensures.eased (c.in_ok-settle_each.ensures.settled.did c.if-not-branch.true) c.meet_all-in-loop-units.ensures.met c.meet_all-in-loop-units.ensures.shown
 
-pub returns-in_err-idle-clause-counts : goal.returns-in_err-idle-clause-counts
-returns-in_err-idle-clause-counts g c = each_then (λ u. seen u.core u.turns u.steps u.ahead) HasCounts HasCounts HasCounts _ _ _ counts_then c.loop-pass.invariant c.step_each.ensures.counts
+pub returns-clause-counts : goal.returns-clause-counts
+returns-clause-counts g c = met_eased_counts (λ u. seen u.core u.turns u.steps u.ahead) _ _ _ c.meet_all.ensures.met (each_then (λ u. seen u.core u.turns u.steps u.ahead) IsEased IsEased IsEased _ _ _ eased_then c.loop-units.invariant.0 c.settle_each.ensures.eased)
 
-pub returns-then-empty-clause-counts : goal.returns-then-empty-clause-counts
-returns-then-empty-clause-counts g c = counts_met (λ u. seen u.core u.turns u.steps u.ahead) _ _ _ _ c.loop-pass.invariant c.step_each.ensures.counts c.meet_all-empty.ensures.met
+pub returns-clause-emptied : goal.returns-clause-emptied
+returns-clause-emptied g c =
+    let counts = met_eased_counts (λ u. seen u.core u.turns u.steps u.ahead) _ _ _ c.meet_all.ensures.met c.loop-units.invariant.0 in
+    let mesh = mesh_counted (λ u. seen u.core u.turns u.steps u.ahead) c.args.topology.now _ _ counts c.requires.mesh in
+    rested_emptied (λ u. seen u.core u.turns u.steps u.ahead) c.args.topology.now c.loop-units.units c.settle_each.new.units mesh c.loop-units.invariant.1 (c.in_ok-settle_each.ensures.settled.rest c.if-not-branch.false)
 
-pub returns-then-empty-clause-granted : goal.returns-then-empty-clause-granted
-returns-then-empty-clause-granted g c = none_grants_met (λ u. seen u.core u.turns u.steps u.ahead) _ _ c.meet_all-empty.ensures.met (c.in_ok-idle.ensures.granted c.if-idle.true)
+pub returns-clause-granted : goal.returns-clause-granted
+returns-clause-granted g c = rested_grants (λ u. seen u.core u.turns u.steps u.ahead) c.loop-units.units c.settle_each.new.units (c.in_ok-settle_each.ensures.settled.rest c.if-not-branch.false)
