@@ -71,7 +71,7 @@ pub weighed : (v : PartsView) (last : ℕ) (a : CoreView) (capacity : ℕ) → I
 weighed v last a capacity k p at =
     k.weight
     ∙ left_is a.config a.cluster v p (shows_at v last a capacity p k at) k.sized
-      (λ i far. ap (λ (y : Part). (y.locks i).queue) at.part ∙ local_runs_queue_at_home a.config a.cluster at.history i at.ran far)
+    (λ i far. ap (λ (y : Part). (y.locks i).queue) at.part ∙ local_runs_queue_at_home a.config a.cluster at.history i at.ran far)
 
 -- what can't be done on the parts can't be done where the log leads to
 pub idle_at : (v : PartsView) (last : ℕ) (a : CoreView) (capacity : ℕ) (x : Choice) → IsCore v last a capacity → Cannot a.config a.cluster v x → IsIdle a x

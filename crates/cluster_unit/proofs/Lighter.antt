@@ -144,11 +144,11 @@ went_more : (n c : ℕ) (old new : List OutletView) (sent ps : List Packet) → 
 unfolding went_out
 went_more n c old new sent ps count_old count_new before now =
     let at_old : (d : ℕ) → d < n → went_to n old d ≡ lanes_weight n c sent d = λ d low. ap₂ (λ x y. x + y)
-        (sent_is n old (place d Request) (parcels c d Request sent) (place_low d n (length old) Request count_old low) (λ x. before d Request x low))
-        (sent_is n old (place d Reply) (parcels c d Reply sent) (place_low d n (length old) Reply count_old low) (λ x. before d Reply x low)) in
+    (sent_is n old (place d Request) (parcels c d Request sent) (place_low d n (length old) Request count_old low) (λ x. before d Request x low))
+    (sent_is n old (place d Reply) (parcels c d Reply sent) (place_low d n (length old) Reply count_old low) (λ x. before d Reply x low)) in
     let at_new : (d : ℕ) → d < n → went_to n new d ≡ lanes_weight n c (sent ++ ps) d = λ d low. ap₂ (λ x y. x + y)
-        (sent_is n new (place d Request) (parcels c d Request (sent ++ ps)) (place_low d n (length new) Request count_new low) (λ x. now d Request x low))
-        (sent_is n new (place d Reply) (parcels c d Reply (sent ++ ps)) (place_low d n (length new) Reply count_new low) (λ x. now d Reply x low)) in
+    (sent_is n new (place d Request) (parcels c d Request (sent ++ ps)) (place_low d n (length new) Request count_new low) (λ x. now d Request x low))
+    (sent_is n new (place d Reply) (parcels c d Reply (sent ++ ps)) (place_low d n (length new) Reply count_new low) (λ x. now d Reply x low)) in
     let was = total_same (went_to n old) (lanes_weight n c sent) n at_old in
     let is = total_same (went_to n new) (λ d. lanes_weight n c sent d + lanes_weight n c ps d) n (λ d low. at_new d low ∙ lanes_more n c d sent ps) in
     let sum = total_add (lanes_weight n c sent) (lanes_weight n c ps) n in
@@ -181,8 +181,8 @@ unfolding came_in
 came_more n f k q old new count low others got =
     let here = came_at n f k q old new (place_low f n (length old) k count low) others got in
     let change = total_change (came_from n old) (came_from n new) f n low (λ d far. ap₂ (λ x y. x + y)
-        (sym (received_same n old new (place d Request) others.count (λ x. ap (λ (y : InletView). y.received) (others.others (place d Request) x (far_place d f Request k far)))))
-        (sym (received_same n old new (place d Reply) others.count (λ x. ap (λ (y : InletView). y.received) (others.others (place d Reply) x (far_place d f Reply k far)))))) in
+    (sym (received_same n old new (place d Request) others.count (λ x. ap (λ (y : InletView). y.received) (others.others (place d Request) x (far_place d f Request k far)))))
+    (sym (received_same n old new (place d Reply) others.count (λ x. ap (λ (y : InletView). y.received) (others.others (place d Reply) x (far_place d f Reply k far)))))) in
     omega arith
 
 -- the same where nothing was received
@@ -340,11 +340,11 @@ lighter_by x a b ran weighed after first d =
     let is : b.weight ≡ part_weight w (part_after w c g p) = after.weight ∙ ap (λ hs. part_weight w (part_at w c start hs)) last.is ∙ ap (part_weight w) grows.part in
     let sent = same_sent w c start last.before ran.history (last.events ∙ sym ran.events) last.ran ran.ran in
     let out = went_more n c a.outlets b.outlets (sent_in w c start last.before) (sends w c g p) ran.outlets after.outlets
-        (λ to k y low. ran.carry to k y low ∙ ap (parcels c to k) (sym sent))
-        (λ to k y low. after.carry to k y low ∙ ap (λ hs. parcels c to k (sent_in w c start hs)) last.is ∙ ap (parcels c to k) grows.sent) in
+    (λ to k y low. ran.carry to k y low ∙ ap (parcels c to k) (sym sent))
+    (λ to k y low. after.carry to k y low ∙ ap (λ hs. parcels c to k (sent_in w c start hs)) last.is ∙ ap (parcels c to k) grows.sent) in
     let from = come_from n (received_in c last.before) (packets_taken c g) (subst (NoneBeyond n) (ap (received_in c) last.is ∙ grows.received) after.sources) in
     let falls : weigh (packet_weight n) (sends w c g p) + part_weight w (part_after w c g p) < weigh (packet_weight n) (packets_taken c g) + part_weight w p
-        = local_weights_fall w c last.before g last.ran from last.steps (subst (λ e. SettlesBy w e p) (sym kind_is) (d.settles p (first p at).settles)) in
+    = local_weights_fall w c last.before g last.ran from last.steps (subst (λ e. SettlesBy w e p) (sym kind_is) (d.settles p (first p at).settles)) in
     let taken_is : weigh (packet_weight n) (packets_taken c g) ≡ weigh (packet_weight n) (taken c 0 d.event) = any_stamp n c g.stamp 0 g.event.kind ∙ ap (λ e. weigh (packet_weight n) (taken c 0 e)) kind_is in
     let came = d.takes in
     omega arith
@@ -363,6 +363,6 @@ lighter_looked a seen b same looked less =
     let n = a.config.top.clusters in
     let came = came_same n a.inlets seen.inlets looked.count looked.received in
     let now : went_out n b.outlets + b.weight + came_in n seen.inlets < went_out n seen.outlets + seen.weight + came_in n b.inlets
-        = subst (λ (w : Config). went_out w.top.clusters b.outlets + b.weight + came_in w.top.clusters seen.inlets < went_out w.top.clusters seen.outlets + seen.weight + came_in w.top.clusters b.inlets) config_is less in
+    = subst (λ (w : Config). went_out w.top.clusters b.outlets + b.weight + came_in w.top.clusters seen.inlets < went_out w.top.clusters seen.outlets + seen.weight + came_in w.top.clusters b.inlets) config_is less in
     let went : went_out n seen.outlets ≡ went_out n a.outlets = ap (went_out n) out_is in
     omega arith

@@ -41,21 +41,21 @@ heavier_then : (a b c : CoreView) → b.config ≡ a.config → IsNoHeavier a b 
 heavier_then a b c same f g =
     let n = a.config.top.clusters in
     let h : went_out n c.outlets + c.weight + came_in n b.inlets ≤ went_out n b.outlets + b.weight + came_in n c.inlets
-        = subst (λ (w : Config). went_out w.top.clusters c.outlets + c.weight + came_in w.top.clusters b.inlets ≤ went_out w.top.clusters b.outlets + b.weight + came_in w.top.clusters c.inlets) same g in
+    = subst (λ (w : Config). went_out w.top.clusters c.outlets + c.weight + came_in w.top.clusters b.inlets ≤ went_out w.top.clusters b.outlets + b.weight + came_in w.top.clusters c.inlets) same g in
     omega arith
 
 pub lighter_then : (a b c : CoreView) → b.config ≡ a.config → IsLighter a b → IsNoHeavier b c → IsLighter a c
 lighter_then a b c same f g =
     let n = a.config.top.clusters in
     let h : went_out n c.outlets + c.weight + came_in n b.inlets ≤ went_out n b.outlets + b.weight + came_in n c.inlets
-        = subst (λ (w : Config). went_out w.top.clusters c.outlets + c.weight + came_in w.top.clusters b.inlets ≤ went_out w.top.clusters b.outlets + b.weight + came_in w.top.clusters c.inlets) same g in
+    = subst (λ (w : Config). went_out w.top.clusters c.outlets + c.weight + came_in w.top.clusters b.inlets ≤ went_out w.top.clusters b.outlets + b.weight + came_in w.top.clusters c.inlets) same g in
     omega arith
 
 pub then_lighter : (a b c : CoreView) → b.config ≡ a.config → IsNoHeavier a b → IsLighter b c → IsLighter a c
 then_lighter a b c same f g =
     let n = a.config.top.clusters in
     let h : went_out n c.outlets + c.weight + came_in n b.inlets < went_out n b.outlets + b.weight + came_in n c.inlets
-        = subst (λ (w : Config). went_out w.top.clusters c.outlets + c.weight + came_in w.top.clusters b.inlets < went_out w.top.clusters b.outlets + b.weight + came_in w.top.clusters c.inlets) same g in
+    = subst (λ (w : Config). went_out w.top.clusters c.outlets + c.weight + came_in w.top.clusters b.inlets < went_out w.top.clusters b.outlets + b.weight + came_in w.top.clusters c.inlets) same g in
     omega arith
 
 pub eased_again : (a : UnitView) → IsEased a a
@@ -257,10 +257,10 @@ module _ {U : Type 0} (view : U → UnitView) where
       let up : (i : ℕ) → i < n → i < length us = λ i l. subst (λ m. i < m) (sym count) l in
       let came = total_same (λ c. taken_by view n (slice_get us c)) (λ c. total (came_by n (slice_get us c)) n) (length us) (λ c l. came_all n (slice_get us c)) in
       let less = total_le (λ c. total (came_by n (slice_get us c)) n) (λ c. total (λ f. went_by n (slice_get us f) c) n) (length us)
-          (λ c l. total_le (came_by n (slice_get us c)) (λ f. went_by n (slice_get us f) c) n (λ f m. pair_le us n f c (up f m) l (met f c (up f m) l))) in
+      (λ c l. total_le (came_by n (slice_get us c)) (λ f. went_by n (slice_get us f) c) n (λ f m. pair_le us n f c (up f m) l (met f c (up f m) l))) in
       let swap = total_swap (λ c f. went_by n (slice_get us f) c) (length us) n in
       let lengths : total (λ f. total (λ c. went_by n (slice_get us f) c) (length us)) n ≡ total (λ f. total (went_by n (slice_get us f)) n) (length us)
-          = ap₂ (λ x y. total (λ f. total (λ c. went_by n (slice_get us f) c) x) y) count (sym count) in
+      = ap₂ (λ x y. total (λ f. total (λ c. went_by n (slice_get us f) c) x) y) count (sym count) in
       let went = total_le (λ f. total (went_by n (slice_get us f)) n) (λ f. given_by view n (slice_get us f)) (length us) (λ f l. went_all n (slice_get us f)) in
       omega arith
 
@@ -280,7 +280,7 @@ module _ {U : Type 0} (view : U → UnitView) where
       let b = (view (slice_index_or vs c x.0)).core in
       let at : slice_get vs c ≡ Some (slice_index_or vs c x.0) = slice_get-get_or vs c x.0 (subst (λ m. c < m) (sym count) low) in
       let h : went_out n b.outlets + b.weight + came_in n a.inlets ≤ went_out n a.outlets + a.weight + came_in n b.inlets
-          = subst (λ m. went_out m b.outlets + b.weight + came_in m a.inlets ≤ went_out m a.outlets + a.weight + came_in m b.inlets) (of c x.0 low) (eased x.0) in
+      = subst (λ m. went_out m b.outlets + b.weight + came_in m a.inlets ≤ went_out m a.outlets + a.weight + came_in m b.inlets) (of c x.0 low) (eased x.0) in
       subst (λ o. given_by view n o + taken_by view n (slice_get us c) ≤ given_by view n (slice_get us c) + taken_by view n o) (sym at)
       (subst (λ o. given_by view n (Some (slice_index_or vs c x.0)) + taken_by view n o ≤ given_by view n o + taken_by view n (Some (slice_index_or vs c x.0))) (sym x.1) h)
 
@@ -292,7 +292,7 @@ module _ {U : Type 0} (view : U → UnitView) where
       let b = (view (slice_index_or vs c x.0)).core in
       let at : slice_get vs c ≡ Some (slice_index_or vs c x.0) = slice_get-get_or vs c x.0 (subst (λ m. c < m) (sym count) low) in
       let h : went_out n b.outlets + b.weight + came_in n a.inlets < went_out n a.outlets + a.weight + came_in n b.inlets
-          = subst (λ m. went_out m b.outlets + b.weight + came_in m a.inlets < went_out m a.outlets + a.weight + came_in m b.inlets) (of c x.0 low) (lighter x.0) in
+      = subst (λ m. went_out m b.outlets + b.weight + came_in m a.inlets < went_out m a.outlets + a.weight + came_in m b.inlets) (of c x.0 low) (lighter x.0) in
       subst (λ o. given_by view n o + taken_by view n (slice_get us c) < given_by view n (slice_get us c) + taken_by view n o) (sym at)
       (subst (λ o. given_by view n (Some (slice_index_or vs c x.0)) + taken_by view n o < given_by view n o + taken_by view n (Some (slice_index_or vs c x.0))) (sym x.1) h)
 
@@ -300,7 +300,7 @@ module _ {U : Type 0} (view : U → UnitView) where
   unfolding given received
   all_fall n us vs of eased one =
       let fall = total_falls_once (λ c. given_by view n (slice_get vs c)) (λ c. taken_by view n (slice_get us c)) (λ c. given_by view n (slice_get us c)) (λ c. taken_by view n (slice_get vs c)) one.place (length us) one.low
-          (λ c low. here_eased n us vs c eased.count low of (λ d. (eased.each c d low).weight)) (here_lighter n us vs one.place eased.count one.low of one.lighter) in
+      (λ c low. here_eased n us vs c eased.count low of (λ d. (eased.each c d low).weight)) (here_lighter n us vs one.place eased.count one.low of one.lighter) in
       subst (λ m. total (λ c. given_by view n (slice_get vs c)) m + total (λ c. taken_by view n (slice_get us c)) (length us) < total (λ c. given_by view n (slice_get us c)) (length us) + total (λ c. taken_by view n (slice_get vs c)) m) (sym eased.count) fall
 
   -- where units only meet
@@ -335,7 +335,7 @@ module _ {U : Type 0} (view : U → UnitView) where
       let from = rest.each a d (in_us a low) in
       let to = rest.each b e (in_us b below) in
       let cluster : a < (view (slice_index_or vs b e)).core.config.top.clusters
-          = subst (λ (w : Config). a < w.top.clusters) (sym to.same.counts.same.config) (subst (λ (s : Topology). a < s.clusters) (sym (mesh.top b e (in_us b below))) (subst (λ m. a < m) mesh.count (in_us a low))) in
+      = subst (λ (w : Config). a < w.top.clusters) (sym to.same.counts.same.config) (subst (λ (s : Topology). a < s.clusters) (sym (mesh.top b e (in_us b below))) (subst (λ m. a < m) mesh.count (in_us a low))) in
       let none = to.shows a k y cluster in
       let was = prefix_none (slice_index_or (view (slice_index_or us b e)).core.inlets (place a k) y).known (slice_index_or (view (slice_index_or vs b e)).core.inlets (place a k) y).known (to.same.known (place a k) y) none in
       let all : at.rest ≡ [] = no_rest at.rest (slice_index_or (view (slice_index_or us b e)).core.inlets (place a k) y).known at.known was in

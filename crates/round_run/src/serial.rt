@@ -15,11 +15,7 @@ const TRIES: u32 = 3;
 /// Lets the harts do steps alone, one hart after another from `first` on and once round, until one has
 /// retired an instruction or committed a store. The answer is whether one has. The machine is settled after
 /// each step that was done.
-pub fn serial_turn(
-    topology: &Topology,
-    units: &mut [Unit],
-    first: u32,
-) -> Result<bool, OutOfMemory>
+pub fn serial_turn(topology: &Topology, units: &mut [Unit], first: u32) -> Result<bool, OutOfMemory>
     requires first { first < topology.now.clusters * topology.now.harts }
     requires mesh { IsMesh (λ u. seen u.core u.turns u.steps u.ahead) topology.now units.old }
     requires emptied { AreEmptied (λ u. seen u.core u.turns u.steps u.ahead) units.old }

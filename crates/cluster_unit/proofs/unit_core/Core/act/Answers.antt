@@ -10,9 +10,10 @@ use Rattle.cluster_unit.proofs.Cores.{idle_at, acted, happened}
 use Rattle.cluster_unit.proofs.unit_core.Core.act.Goals as goal
 
 pub returns-in_default : goal.returns-in_default
-returns-in_default c =
-    (subst (λ a. IsIdle a c.args.choice) c.self.view_is (idle_at (shown c.self.inside.parts) c.self.inside.last (the_view c.self.inside) _ c.args.choice c.self.invariant (c.in_default.ensures.idle c.requires.own)),
-    ap (λ v. record (spent (the_view c.self.inside)) { weight = weight_left (the_view c.self.inside).config (the_view c.self.inside).cluster v }) c.in_default.ensures.unchanged ∙ ap spent c.self.view_is)
+returns-in_default c = (
+  subst (λ a. IsIdle a c.args.choice) c.self.view_is (idle_at (shown c.self.inside.parts) c.self.inside.last (the_view c.self.inside) _ c.args.choice c.self.invariant (c.in_default.ensures.idle c.requires.own)),
+  ap (λ v. record (spent (the_view c.self.inside)) { weight = weight_left (the_view c.self.inside).config (the_view c.self.inside).cluster v }) c.in_default.ensures.unchanged ∙ ap spent c.self.view_is,
+)
 
 pub invariant_of-self-2 : goal.invariant_of-self-2
 invariant_of-self-2 c =
