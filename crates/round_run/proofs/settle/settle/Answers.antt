@@ -31,3 +31,10 @@ returns-clause-emptied g c =
 
 pub returns-clause-granted : goal.returns-clause-granted
 returns-clause-granted g c = rested_grants (λ u. seen u.core u.turns u.steps u.ahead) c.loop-units.units c.settle_each.new.units (c.in_ok-settle_each.ensures.settled.rest c.if-not-branch.false)
+
+pub meet_all-requires-in-loop-units : goal.meet_all-requires-in-loop-units
+meet_all-requires-in-loop-units g c =
+    record { mesh = mesh_counted (λ u. seen u.core u.turns u.steps u.ahead) c.args.topology.now _ _ (met_eased_counts (λ u. seen u.core u.turns u.steps u.ahead) _ _ _ c.meet_all.ensures.met (each_then (λ u. seen u.core u.turns u.steps u.ahead) IsEased IsEased IsEased _ _ _ eased_then c.loop-units.invariant.0 c.settle_each.ensures.eased)) c.requires.mesh }
+
+pub returns-in_err-settle_each-clause-counts : goal.returns-in_err-settle_each-clause-counts
+returns-in_err-settle_each-clause-counts g c = met_eased_counts (λ u. seen u.core u.turns u.steps u.ahead) _ _ _ c.meet_all.ensures.met (each_then (λ u. seen u.core u.turns u.steps u.ahead) IsEased IsEased IsEased _ _ _ eased_then c.loop-units.invariant.0 c.settle_each.ensures.eased)
