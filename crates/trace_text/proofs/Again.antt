@@ -228,4 +228,4 @@ event_again e fits =
 -- an event is found again by its line
 pub line_tells : (e : Event) (line : List ℕ) → FitsEvent e → event_line e ≡ line → event_of (words line) ≡ e
 line_tells e line fits is =
-    ap (λ text. event_of (words text)) (sym is) ∙ ap event_of (event_row e fits) ∙ event_again e fits
+    ap (λ text. event_of (words text)) (sym is) ∙ ap event_of (event_row e fits).cut ∙ event_again e fits

@@ -67,7 +67,7 @@ unfoldable pub is_word : List ℕ → Bool
 is_word [] = true
 is_word (c ∷ cs) = not (is_mark c) && is_word cs
 
-no_mark : (a b : Bool) → not a && b ≡ true → a ≡ false
+pub no_mark : (a b : Bool) → not a && b ≡ true → a ≡ false
 no_mark true b e = absurd (cc)
 no_mark false b e = refl
 

@@ -1,7 +1,10 @@
 mod Cuts
+mod OneLine
 mod Digits
 mod Rows
 mod Again
 mod InRange
 mod Lines
 mod Texts
+mod Unique
+mod NotRefused

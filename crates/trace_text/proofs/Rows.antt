@@ -23,24 +23,41 @@ use Rattle.trace_text.specs.MsgText.{copy_text, msg_text}
 use Rattle.trace_text.specs.Spelling.{hex, hex_byte, word_text, number_text, cause_text}
 use Rattle.trace_text.specs.Words.{is_mark, words}
 use Rattle.trace_text.proofs.Cuts.{is_word, word_then}
+use Rattle.trace_text.proofs.OneLine.{ends_once, space_once, newline_once, word_once}
 use Rattle.trace_text.proofs.Digits.{short_word, decimal_word, hex_word, byte_word, mask_word, content_word, slot_word}
 
--- a word and a mark in front of other words
-then : (w : List ℕ) (mark : ℕ) (rest : List ℕ) (ws : List (List ℕ)) → is_mark mark ≡ true → is_word w ≡ true
-    → words rest ≡ ws → words (w ++ mark ∷ rest) ≡ w ∷ ws
-then w mark rest ws ends word others = word_then w mark rest word ends ∙ ap (λ vs. w ∷ vs) others
+-- the words of a text, the only newline of which is its last byte
+pub record Row (text : List ℕ) (ws : List (List ℕ)) : Type 0 where
+  pub cut : words text ≡ ws
+  pub once : ends_once text ≡ true
+
+-- what stands behind a word: a mark, and a text of these words
+record Follows (mark : ℕ) (rest : List ℕ) (ws : List (List ℕ)) : Type 0 where
+  ends : is_mark mark ≡ true
+  cut : words rest ≡ ws
+  once : ends_once (mark ∷ rest) ≡ true
+
+at_space : (rest : List ℕ) (ws : List (List ℕ)) → Row rest ws → Follows 32 rest ws
+at_space rest ws row = record { ends = refl; cut = row.cut; once = space_once rest ∙ row.once }
+
+at_end : Follows 10 [] []
+unfolding words
+at_end = record { ends = refl; cut = refl; once = newline_once }
+
+-- a word in front of others
+then : (w : List ℕ) (mark : ℕ) (rest : List ℕ) (ws : List (List ℕ)) → is_word w ≡ true → Follows mark rest ws → Row (w ++ mark ∷ rest) (w ∷ ws)
+then w mark rest ws word follows = record {
+  cut = word_then w mark rest word follows.ends ∙ ap (λ vs. w ∷ vs) follows.cut;
+  once = word_once w (mark ∷ rest) word ∙ follows.once;
+}
 
 -- a word and a space in front of other words
-spaced : (w rest : List ℕ) (ws : List (List ℕ)) → is_word w ≡ true → words rest ≡ ws → words (w ++ 32 ∷ rest) ≡ w ∷ ws
-spaced w rest ws word others = then w 32 rest ws refl word others
-
-none : words [] ≡ []
-unfolding words
-none = refl
+spaced : (w rest : List ℕ) (ws : List (List ℕ)) → is_word w ≡ true → Row rest ws → Row (w ++ 32 ∷ rest) (w ∷ ws)
+spaced w rest ws word others = then w 32 rest ws word (at_space rest ws others)
 
 -- a word and the newline
-last : (w : List ℕ) → is_word w ≡ true → words (w ++ 10 ∷ []) ≡ w ∷ []
-last w word = then w 10 [] [] refl word none
+last : (w : List ℕ) → is_word w ≡ true → Row (w ++ 10 ∷ []) (w ∷ [])
+last w word = then w 10 [] [] word at_end
 
 op_word : (o : Op) → is_word (op_text o) ≡ true
 unfolding is_word
@@ -88,21 +105,21 @@ access_words a ws =
     decimal a.hart.0 ∷ decimal a.number ∷ op_text a.op ∷ labels_text a.labels.aq a.labels.rl ∷ hex a.word.0 ∷ digits 16 false a.mask
     ∷ word_text a.read ∷ word_text a.written ∷ seen_words a.seen ws
 
-seen_row : (s : Seen) (mark : ℕ) (rest : List ℕ) (ws : List (List ℕ)) → is_mark mark ≡ true → FitsSeen s → words rest ≡ ws
-    → words (seen_text s ++ mark ∷ rest) ≡ seen_words s ws
+seen_row : (s : Seen) (mark : ℕ) (rest : List ℕ) (ws : List (List ℕ)) → FitsSeen s → Follows mark rest ws
+    → Row (seen_text s ++ mark ∷ rest) (seen_words s ws)
 unfolding is_word
-seen_row (seen.Line version) mark rest ws ends fits others =
-    spaced (codes "line") _ _ refl (then (decimal version) mark rest ws ends (decimal_word version fits) others)
-seen_row (seen.Own number) mark rest ws ends fits others =
-    spaced (codes "own") _ _ refl (then (decimal number) mark rest ws ends (short_word number fits) others)
-seen_row (seen.Lock count) mark rest ws ends fits others =
-    spaced (codes "lock") _ _ refl (then (decimal count) mark rest ws ends (decimal_word count fits) others)
-seen_row seen.Nothing mark rest ws ends fits others = then (codes "-") mark rest ws ends refl others
+seen_row (seen.Line version) mark rest ws fits follows =
+    spaced (codes "line") _ _ refl (then (decimal version) mark rest ws (decimal_word version fits) follows)
+seen_row (seen.Own number) mark rest ws fits follows =
+    spaced (codes "own") _ _ refl (then (decimal number) mark rest ws (short_word number fits) follows)
+seen_row (seen.Lock count) mark rest ws fits follows =
+    spaced (codes "lock") _ _ refl (then (decimal count) mark rest ws (decimal_word count fits) follows)
+seen_row seen.Nothing mark rest ws fits follows = then (codes "-") mark rest ws refl follows
 
-access_row : (a : Access) (mark : ℕ) (rest : List ℕ) (ws : List (List ℕ)) → is_mark mark ≡ true → FitsAccess a → words rest ≡ ws
-    → words (access_text a ++ mark ∷ rest) ≡ access_words a ws
+access_row : (a : Access) (mark : ℕ) (rest : List ℕ) (ws : List (List ℕ)) → FitsAccess a → Follows mark rest ws
+    → Row (access_text a ++ mark ∷ rest) (access_words a ws)
 unfolding access_text access_head access_tail
-access_row a mark rest ws ends fits others =
+access_row a mark rest ws fits follows =
     simp append_assoc (
     spaced _ _ _ (short_word a.hart.0 fits.hart) (
     spaced _ _ _ (short_word a.number fits.number) (
@@ -112,23 +129,23 @@ access_row a mark rest ws ends fits others =
     spaced _ _ _ (mask_word a.mask fits.mask) (
     spaced _ _ _ (content_word a.read fits.read) (
     spaced _ _ _ (content_word a.written fits.written) (
-    seen_row a.seen mark rest ws ends fits.seen others)))))))))
+    seen_row a.seen mark rest ws fits.seen follows)))))))))
 
 -- those of a line's content
 abbrev pub copy_words : Line → List (List ℕ) → List (List ℕ)
 copy_words d ws =
     hex (slice_index d.words 0) ∷ hex (slice_index d.words 1) ∷ hex (slice_index d.words 2) ∷ hex (slice_index d.words 3) ∷ decimal d.version ∷ ws
 
-copy_row : (d : Line) (mark : ℕ) (rest : List ℕ) (ws : List (List ℕ)) → is_mark mark ≡ true → FitsLine d → words rest ≡ ws
-    → words (copy_text d ++ mark ∷ rest) ≡ copy_words d ws
+copy_row : (d : Line) (mark : ℕ) (rest : List ℕ) (ws : List (List ℕ)) → FitsLine d → Follows mark rest ws
+    → Row (copy_text d ++ mark ∷ rest) (copy_words d ws)
 unfolding copy_text
-copy_row d mark rest ws ends fits others =
+copy_row d mark rest ws fits follows =
     simp append_assoc (
     spaced _ _ _ (hex_word _ (fits.words 0)) (
     spaced _ _ _ (hex_word _ (fits.words 1)) (
     spaced _ _ _ (hex_word _ (fits.words 2)) (
     spaced _ _ _ (hex_word _ (fits.words 3)) (
-    then (decimal d.version) mark rest ws ends (decimal_word d.version fits.version) others)))))
+    then (decimal d.version) mark rest ws (decimal_word d.version fits.version) follows)))))
 
 -- those of a message, which ends its line
 abbrev pub msg_words : Msg → List (List ℕ)
@@ -151,15 +168,15 @@ msg_words (LockGrant hart) = codes "lockgrant" ∷ decimal hart.0 ∷ []
 msg_words (UnlockAck hart old) = codes "unlockack" ∷ decimal hart.0 ∷ hex old ∷ []
 
 -- a name and one number
-one_number : (name : List ℕ) (n : ℕ) → is_word name ≡ true → n < 2 ^ 32 → words (name ++ 32 ∷ (decimal n ++ 10 ∷ [])) ≡ name ∷ decimal n ∷ []
+one_number : (name : List ℕ) (n : ℕ) → is_word name ≡ true → n < 2 ^ 32 → Row (name ++ 32 ∷ (decimal n ++ 10 ∷ [])) (name ∷ decimal n ∷ [])
 one_number name n word fits = spaced name _ _ word (last (decimal n) (short_word n fits))
 
 -- a name and two numbers
 two_numbers : (name : List ℕ) (m n : ℕ) → is_word name ≡ true → m < 2 ^ 32 → n < 2 ^ 32
-    → words (name ++ 32 ∷ (decimal m ++ 32 ∷ (decimal n ++ 10 ∷ []))) ≡ name ∷ decimal m ∷ decimal n ∷ []
+    → Row (name ++ 32 ∷ (decimal m ++ 32 ∷ (decimal n ++ 10 ∷ []))) (name ∷ decimal m ∷ decimal n ∷ [])
 two_numbers name m n word m_fits n_fits = spaced name _ _ word (spaced _ _ _ (short_word m m_fits) (last (decimal n) (short_word n n_fits)))
 
-msg_row : (m : Msg) → FitsMsg m → words (msg_text m ++ 10 ∷ []) ≡ msg_words m
+msg_row : (m : Msg) → FitsMsg m → Row (msg_text m ++ 10 ∷ []) (msg_words m)
 unfolding is_word
 msg_row (Read line) fits = one_number (codes "read") line.0 refl fits
 msg_row (ReadEx line) fits = one_number (codes "readex") line.0 refl fits
@@ -167,10 +184,10 @@ msg_row (FwdRead line to) fits = simp append_assoc (two_numbers (codes "fwdread"
 msg_row (FwdReadEx line to) fits = simp append_assoc (two_numbers (codes "fwdreadex") line.0 to.0 refl fits.0 fits.1)
 msg_row (Inval line to) fits = simp append_assoc (two_numbers (codes "inval") line.0 to.0 refl fits.0 fits.1)
 msg_row (WriteBack line copy) fits =
-    simp append_assoc (spaced (codes "writeback") _ _ refl (spaced _ _ _ (short_word line.0 fits.0) (copy_row copy 10 [] [] refl fits.1 none)))
+    simp append_assoc (spaced (codes "writeback") _ _ refl (spaced _ _ _ (short_word line.0 fits.0) (copy_row copy 10 [] [] fits.1 at_end)))
 msg_row (SharingBack line copy to) fits =
     simp append_assoc (spaced (codes "sharingback") _ _ refl (
-    spaced _ _ _ (short_word line.0 fits.0) (copy_row copy 32 _ _ refl fits.1 (last (decimal to.0) (short_word to.0 fits.2)))))
+    spaced _ _ _ (short_word line.0 fits.0) (copy_row copy 32 _ _ fits.1 (at_space _ _ (last (decimal to.0) (short_word to.0 fits.2))))))
 msg_row (Transfer line to) fits = simp append_assoc (two_numbers (codes "transfer") line.0 to.0 refl fits.0 fits.1)
 msg_row (LockAsk hart number word value) fits =
     simp append_assoc (spaced (codes "lockask") _ _ refl (
@@ -182,10 +199,10 @@ msg_row (Unlock hart number word) fits =
     spaced _ _ _ (short_word hart.0 fits.0) (
     spaced _ _ _ (short_word number fits.1) (last (hex word.0) (hex_word word.0 fits.2)))))
 msg_row (Data line copy) fits =
-    simp append_assoc (spaced (codes "data") _ _ refl (spaced _ _ _ (short_word line.0 fits.0) (copy_row copy 10 [] [] refl fits.1 none)))
+    simp append_assoc (spaced (codes "data") _ _ refl (spaced _ _ _ (short_word line.0 fits.0) (copy_row copy 10 [] [] fits.1 at_end)))
 msg_row (DataEx line copy count) fits =
     simp append_assoc (spaced (codes "dataex") _ _ refl (
-    spaced _ _ _ (short_word line.0 fits.0) (copy_row copy 32 _ _ refl fits.1 (last (decimal count) (short_word count fits.2)))))
+    spaced _ _ _ (short_word line.0 fits.0) (copy_row copy 32 _ _ fits.1 (at_space _ _ (last (decimal count) (short_word count fits.2))))))
 msg_row (Ack line) fits = one_number (codes "ack") line.0 refl fits
 msg_row (TransferAck line) fits = one_number (codes "transferack") line.0 refl fits
 msg_row (Nak line) fits = one_number (codes "nak") line.0 refl fits
@@ -199,7 +216,7 @@ end_words (Exited code) = codes "exit" ∷ hex code ∷ []
 end_words (Trapped cause value) = codes "trap" ∷ cause_text cause ∷ hex value ∷ []
 end_words Running = codes "running" ∷ []
 
-end_row : (e : End) → FitsEnd e → words (end_text e ++ 10 ∷ []) ≡ end_words e
+end_row : (e : End) → FitsEnd e → Row (end_text e ++ 10 ∷ []) (end_words e)
 unfolding is_word
 end_row (Exited code) fits = spaced (codes "exit") _ _ refl (last (hex code) (hex_word code fits))
 end_row (Trapped cause value) fits =
@@ -232,11 +249,11 @@ kind_words (kind.Take from msg) = codes "take" ∷ decimal from.0 ∷ msg_words 
 
 -- a name, a hart and an address in front of other words
 at_pc_row : (name : List ℕ) (hart pc : ℕ) (rest : List ℕ) (ws : List (List ℕ)) → is_word name ≡ true → hart < 2 ^ 32 → pc < 2 ^ 32
-    → words rest ≡ ws → words (name ++ 32 ∷ (decimal hart ++ 32 ∷ (hex pc ++ 32 ∷ rest))) ≡ name ∷ decimal hart ∷ hex pc ∷ ws
+    → Row rest ws → Row (name ++ 32 ∷ (decimal hart ++ 32 ∷ (hex pc ++ 32 ∷ rest))) (name ∷ decimal hart ∷ hex pc ∷ ws)
 at_pc_row name hart pc rest ws word hart_fits pc_fits others =
     spaced name _ _ word (spaced _ _ _ (short_word hart hart_fits) (spaced _ _ _ (hex_word pc pc_fits) others))
 
-kind_row : (k : Kind) → FitsKind k → words (kind_text k ++ 10 ∷ []) ≡ kind_words k
+kind_row : (k : Kind) → FitsKind k → Row (kind_text k ++ 10 ∷ []) (kind_words k)
 unfolding is_word
 kind_row (kind.Alu hart pc) fits =
     simp append_assoc (spaced (codes "alu") _ _ refl (spaced _ _ _ (short_word hart.0 fits.0) (last (hex pc) (hex_word pc fits.1))))
@@ -249,17 +266,17 @@ kind_row (kind.Put hart pc byte) fits =
 kind_row (kind.Stop hart pc end) fits =
     simp append_assoc (at_pc_row (codes "stop") hart.0 pc _ _ refl fits.0 fits.1 (end_row end fits.2))
 kind_row (kind.Load access level) fits =
-    simp append_assoc (spaced (codes "load") _ _ refl (access_row access 32 _ _ refl fits.0 (last (decimal level) (short_word level fits.1))))
-kind_row (kind.Store access) fits = spaced (codes "store") _ _ refl (access_row access 10 [] [] refl fits none)
+    simp append_assoc (spaced (codes "load") _ _ refl (access_row access 32 _ _ fits.0 (at_space _ _ (last (decimal level) (short_word level fits.1)))))
+kind_row (kind.Store access) fits = spaced (codes "store") _ _ refl (access_row access 10 [] [] fits at_end)
 kind_row (kind.Commit hart number line version) fits =
     simp append_assoc (spaced (codes "commit") _ _ refl (
     spaced _ _ _ (short_word hart.0 fits.0) (
     spaced _ _ _ (short_word number fits.1) (
     spaced _ _ _ (short_word line.0 fits.2) (last (decimal version) (decimal_word version fits.3))))))
 kind_row (kind.Rmw access line version) fits =
-    simp append_assoc (spaced (codes "rmw") _ _ refl (access_row access 32 _ _ refl fits.0 (
-    spaced _ _ _ (short_word line.0 fits.1) (last (decimal version) (decimal_word version fits.2)))))
-kind_row (kind.ScFail access) fits = spaced (codes "scfail") _ _ refl (access_row access 10 [] [] refl fits none)
+    simp append_assoc (spaced (codes "rmw") _ _ refl (access_row access 32 _ _ fits.0 (at_space _ _ (
+    spaced _ _ _ (short_word line.0 fits.1) (last (decimal version) (decimal_word version fits.2))))))
+kind_row (kind.ScFail access) fits = spaced (codes "scfail") _ _ refl (access_row access 10 [] [] fits at_end)
 kind_row (kind.LockSend hart msg) fits =
     simp append_assoc (spaced (codes "locksend") _ _ refl (spaced _ _ _ (short_word hart.0 fits.0) (msg_row msg fits.1)))
 kind_row (kind.BusRead hart line) fits = simp append_assoc (two_numbers (codes "busread") hart.0 line.0 refl fits.0 fits.1)
@@ -275,9 +292,9 @@ kind_row (kind.Install slot hart line) fits =
     simp append_assoc (spaced (codes "install") _ _ refl (
     spaced _ _ _ (short_word slot fits.0) (
     spaced _ _ _ (short_word hart.0 fits.1) (last (decimal line.0) (short_word line.0 fits.2)))))
-kind_row (kind.Grant access) fits = spaced (codes "grant") _ _ refl (access_row access 10 [] [] refl fits none)
+kind_row (kind.Grant access) fits = spaced (codes "grant") _ _ refl (access_row access 10 [] [] fits at_end)
 kind_row (kind.Free from access) fits =
-    simp append_assoc (spaced (codes "free") _ _ refl (spaced _ _ _ (short_word from.0 fits.0) (access_row access 10 [] [] refl fits.1 none)))
+    simp append_assoc (spaced (codes "free") _ _ refl (spaced _ _ _ (short_word from.0 fits.0) (access_row access 10 [] [] fits.1 at_end)))
 kind_row (kind.Take from msg) fits =
     simp append_assoc (spaced (codes "take") _ _ refl (spaced _ _ _ (short_word from.0 fits.0) (msg_row msg fits.1)))
 
@@ -285,7 +302,7 @@ kind_row (kind.Take from msg) fits =
 abbrev pub event_words : Event → List (List ℕ)
 event_words e = decimal e.stamp ∷ decimal e.cluster.0 ∷ kind_words e.kind
 
-pub event_row : (e : Event) → FitsEvent e → words (event_line e) ≡ event_words e
+pub event_row : (e : Event) → FitsEvent e → Row (event_line e) (event_words e)
 unfolding event_line
 event_row e fits =
     simp append_assoc (spaced _ _ _ (decimal_word e.stamp fits.stamp) (

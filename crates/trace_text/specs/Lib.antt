@@ -9,3 +9,4 @@ pub mod MsgWords
 pub mod EventWords
 pub mod Fits
 pub mod Reading
+pub mod TextLaws

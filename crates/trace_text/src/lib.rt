@@ -1,6 +1,7 @@
 //! The text of logs: what happened in a run of the machine, an event a line.
 //!
-//! A log has one text. This crate knows how each event is spelled, and nothing of how it came about.
+//! A log has one text, and a text is that of one log at most. This crate knows how each event is spelled,
+//! and nothing of how it came about.
 #![tactic(auto)]
 
 pub use accesses::push_access;
@@ -12,6 +13,7 @@ pub use refusal::TextRefusal;
 mod accesses;
 mod ends;
 mod kinds;
+pub mod laws;
 mod log;
 mod messages;
 mod read_accesses;

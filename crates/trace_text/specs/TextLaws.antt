@@ -1,0 +1,21 @@
+-- Laws of logs and their texts. Each is the contract of a function of `laws`.
+use Rattle.std.specs.Prelude.{◌≡◌, ℕ, List}
+use Rattle.std.specs.List.{AllByRecursion}
+use Rattle.dash_event.specs.declared.event.Event.{Event}
+use Rattle.trace_text.specs.Fits.{FitsEvent}
+use Rattle.trace_text.specs.LogText.{log_text}
+use Rattle.trace_text.specs.Reading.{IsTextOf, IsRefusedFor}
+use Rattle.trace_text.specs.declared.refusal.TextRefusal.{TextRefusal}
+use Rattle.trace_text.specs.declared.refusal.TextRefusal.TheVariants.{OutOfMemory}
+
+-- two logs of one text, whose numbers are within the bounds of their types, are one log
+abbrev pub TextsTellLogs : Type 0
+TextsTellLogs = (l m : List Event) → AllByRecursion FitsEvent l → AllByRecursion FitsEvent m → log_text l ≡ log_text m → l ≡ m
+
+-- the log that is read from the text of a log, whose numbers are within the bounds of their types, is that log
+abbrev pub ReadingGivesBack : Type 0
+ReadingGivesBack = (l m : List Event) → AllByRecursion FitsEvent l → IsTextOf (log_text l) m → m ≡ l
+
+-- a text of a log is refused for want of memory alone
+abbrev pub TextsOfLogsAreRead : Type 0
+TextsOfLogsAreRead = (text : List ℕ) (log : List Event) (why : TextRefusal) → IsTextOf text log → IsRefusedFor text why → why ≡ OutOfMemory
