@@ -3,7 +3,6 @@ mod OneLine
 mod Digits
 mod Rows
 mod Again
-mod InRange
 mod Lines
 mod Texts
 mod Unique

@@ -1,5 +1,5 @@
 -- What a line is read as.
-use Rattle.std.proofs.Common.{◌≡◌, ℕ, Bool, true, false, not, List, sym, subst, ap, ◌∙◌}
+use Rattle.std.proofs.Common.{◌≡◌, ℕ, Bool, true, false, not, List, sym, ap, ◌∙◌}
 use Rattle.std.specs.Str.{bytes_eq}
 use Rattle.std.proofs.lemmas.Slice.Eq.{bytes_eq-Decides}
 use Rattle.dash_base.specs.declared.id.ClusterId.{ClusterId}
@@ -12,7 +12,6 @@ use Rattle.trace_text.specs.Reading.{IsLineOf, IsNoLine}
 use Rattle.trace_text.specs.Values.{value_of, cluster_of}
 use Rattle.trace_text.specs.Words.{first, behind, words}
 use Rattle.trace_text.proofs.Again.{happened, line_tells, three}
-use Rattle.trace_text.proofs.InRange.{event_fits}
 
 -- what a line's words stand for, made field by field
 pub made : (line : List ℕ) (all later last : List (List ℕ)) (stamp : ℕ) (cluster : ClusterId) (kind : Kind)
@@ -24,11 +23,10 @@ made line all later last stamp cluster kind all_is stamp_is later_is cluster_is 
     three happened (stamp_is ∙ ap (λ ws. value_of 10 (first ws)) all_is) (cluster_is ∙ ap (λ ws. cluster_of (first ws)) later_of)
     (kind_is ∙ ap kind_of (last_is ∙ ap behind later_of))
 
--- the line is that of what its words stand for
-same_line : (line written : List ℕ) (e : Event) → e ≡ event_of (words line) → written ≡ event_line e → bytes_eq written line ≡ true
-    → IsLineOf line e
-same_line line written e is writes same = record {
-  fits = subst FitsEvent (sym is) (event_fits (words line));
+-- the line is that of an event that was written
+same_line : (line written : List ℕ) (e : Event) → FitsEvent e → written ≡ event_line e → bytes_eq written line ≡ true → IsLineOf line e
+same_line line written e fits writes same = record {
+  fits = fits;
   spelled = sym writes ∙ (bytes_eq-Decides written line).0 same;
 }
 
@@ -50,9 +48,9 @@ is_true true e = cc
 is_true false e = absurd (cc)
 
 -- by the test of the code, that they differ
-pub read_same : (line written : List ℕ) (e : Event) (differ : Bool) → e ≡ event_of (words line) → written ≡ event_line e
+pub read_same : (line written : List ℕ) (e : Event) (differ : Bool) → FitsEvent e → written ≡ event_line e
     → differ ≡ not (bytes_eq written line) → differ ≡ false → IsLineOf line e
-read_same line written e differ is writes test same = same_line line written e is writes (is_true _ (sym test ∙ same))
+read_same line written e differ fits writes test same = same_line line written e fits writes (is_true _ (sym test ∙ same))
 
 pub read_other : (line written : List ℕ) (e : Event) (differ : Bool) → e ≡ event_of (words line) → written ≡ event_line e
     → differ ≡ not (bytes_eq written line) → differ ≡ true → IsNoLine line

@@ -39,4 +39,4 @@ pub texts_tell_logs : TextsTellLogs
 texts_tell_logs l m fit also same = same_events l m fit also (same_behind_head (flat_map event_line l) (flat_map event_line m) same)
 
 pub reading_gives_back : ReadingGivesBack
-reading_gives_back l m fit of = texts_tell_logs m l of.fit fit (sym of.is)
+reading_gives_back text written read of also = texts_tell_logs read written also.fit of.fit (sym also.is ∙ of.is)

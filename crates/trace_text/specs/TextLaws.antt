@@ -12,9 +12,9 @@ use Rattle.trace_text.specs.declared.refusal.TextRefusal.TheVariants.{OutOfMemor
 abbrev pub TextsTellLogs : Type 0
 TextsTellLogs = (l m : List Event) → AllByRecursion FitsEvent l → AllByRecursion FitsEvent m → log_text l ≡ log_text m → l ≡ m
 
--- the log that is read from the text of a log, whose numbers are within the bounds of their types, is that log
+-- a text that was written of one log, and read as one, was read as the log that was written
 abbrev pub ReadingGivesBack : Type 0
-ReadingGivesBack = (l m : List Event) → AllByRecursion FitsEvent l → IsTextOf (log_text l) m → m ≡ l
+ReadingGivesBack = (text : List ℕ) (written read : List Event) → IsTextOf text written → IsTextOf text read → read ≡ written
 
 -- a text of a log is refused for want of memory alone
 abbrev pub TextsOfLogsAreRead : Type 0

@@ -1,6 +1,7 @@
 //! The text of accesses.
-ghost use Rattle.std.specs.Prelude.{◌≡◌, ◌++◌, OnOk, string_bytes};
+ghost use Rattle.std.specs.Prelude.{◌≡◌, ◌<◌, ◌++◌, OnOk, string_bytes};
 ghost use Rattle.trace_text.specs.Spelling.{word_text};
+ghost use Rattle.trace_text.specs.Fits.{IsShort, IsShortIfAny, FitsSeen, FitsAccess};
 ghost use Rattle.trace_text.specs.AccessText.{op_text, labels_text, seen_text, access_head, access_tail, access_text};
 
 use dash_base::{Labels, OutOfMemory};
@@ -11,7 +12,8 @@ use std::fmt::Write;
 /// it was shown.
 #[tactic(auto, unfolding(crate::specs::AccessText::access_text))]
 pub fn push_access(text: &mut String, access: &Access) -> Result<(), OutOfMemory>
-    ensures { OnOk result (string_bytes text.new ≡ string_bytes text.old ++ access_text access.now) }
+    ensures text { OnOk result (string_bytes text.new ≡ string_bytes text.old ++ access_text access.now) }
+    ensures fits { OnOk result (FitsAccess access.now) }
 {
     push_head(text, access)?;
     push_tail(text, access)?;
@@ -22,7 +24,8 @@ pub fn push_access(text: &mut String, access: &Access) -> Result<(), OutOfMemory
 /// Whose access it is, and of what kind.
 #[tactic(auto, unfolding(crate::specs::AccessText::access_head))]
 fn push_head(text: &mut String, access: &Access) -> Result<(), OutOfMemory>
-    ensures { OnOk result (string_bytes text.new ≡ string_bytes text.old ++ access_head access.now) }
+    ensures text { OnOk result (string_bytes text.new ≡ string_bytes text.old ++ access_head access.now) }
+    ensures fits { OnOk result (IsShort access.now.hart.0 × IsShort access.now.number) }
 {
     let hart = access.hart.0;
     let number = access.number;
@@ -35,7 +38,8 @@ fn push_head(text: &mut String, access: &Access) -> Result<(), OutOfMemory>
 /// Which bytes it means, and what it read and wrote.
 #[tactic(auto, unfolding(crate::specs::AccessText::access_tail, crate::specs::Spelling::hex))]
 fn push_tail(text: &mut String, access: &Access) -> Result<(), OutOfMemory>
-    ensures { OnOk result (string_bytes text.new ≡ string_bytes text.old ++ access_tail access.now) }
+    ensures text { OnOk result (string_bytes text.new ≡ string_bytes text.old ++ access_tail access.now) }
+    ensures fits { OnOk result (IsShort access.now.word.0 × (access.now.mask < 16) × IsShortIfAny access.now.read × IsShortIfAny access.now.written) }
 {
     let word = access.word.0;
     let mask = access.mask.bits();
@@ -50,7 +54,8 @@ fn push_tail(text: &mut String, access: &Access) -> Result<(), OutOfMemory>
 /// A word, or `-` for none.
 #[tactic(auto, unfolding(crate::specs::Spelling::hex))]
 fn push_value(text: &mut String, value: Option<u32>) -> Result<(), OutOfMemory>
-    ensures { OnOk result (string_bytes text.new ≡ string_bytes text.old ++ word_text value) }
+    ensures text { OnOk result (string_bytes text.new ≡ string_bytes text.old ++ word_text value) }
+    ensures fits { OnOk result (IsShortIfAny value) }
 {
     match value {
         Some(word) => write!(text, "{word:08x}")?,
@@ -61,7 +66,8 @@ fn push_value(text: &mut String, value: Option<u32>) -> Result<(), OutOfMemory>
 
 /// Which content it was shown.
 fn push_seen(text: &mut String, seen: Seen) -> Result<(), OutOfMemory>
-    ensures { OnOk result (string_bytes text.new ≡ string_bytes text.old ++ seen_text seen) }
+    ensures text { OnOk result (string_bytes text.new ≡ string_bytes text.old ++ seen_text seen) }
+    ensures fits { OnOk result (FitsSeen seen) }
 {
     match seen {
         Seen::Line(version) => write!(text, "line {version}")?,

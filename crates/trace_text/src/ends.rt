@@ -1,5 +1,6 @@
 //! The text of how a hart ended.
 ghost use Rattle.std.specs.Prelude.{◌≡◌, ◌++◌, OnOk, string_bytes};
+ghost use Rattle.trace_text.specs.Fits.{FitsEnd};
 ghost use Rattle.trace_text.specs.Spelling.{cause_text};
 ghost use Rattle.trace_text.specs.LogText.{end_text};
 
@@ -9,7 +10,8 @@ use std::fmt::Write;
 /// Appends how a hart ended.
 #[tactic(auto, unfolding(crate::specs::Spelling::hex))]
 pub fn push_end(text: &mut String, end: End) -> Result<(), OutOfMemory>
-    ensures { OnOk result (string_bytes text.new ≡ string_bytes text.old ++ end_text end) }
+    ensures text { OnOk result (string_bytes text.new ≡ string_bytes text.old ++ end_text end) }
+    ensures fits { OnOk result (FitsEnd end) }
 {
     match end {
         End::Exited(code) => write!(text, "exit {code:08x}")?,

@@ -1,5 +1,6 @@
 //! The text of what happened.
 ghost use Rattle.std.specs.Prelude.{◌≡◌, ◌++◌, decimal, OnOk, string_bytes};
+ghost use Rattle.trace_text.specs.Fits.{IsShort, FitsAccess, FitsKind};
 ghost use Rattle.trace_text.specs.Spelling.{space};
 ghost use Rattle.trace_text.specs.AccessText.{access_text};
 ghost use Rattle.trace_text.specs.LogText.{of_hart, at_pc, own_text, kind_text};
@@ -14,7 +15,8 @@ use std::fmt::Write;
 
 /// Appends what happened: its name and its fields.
 pub fn push_kind(text: &mut String, kind: &Kind) -> Result<(), OutOfMemory>
-    ensures { OnOk result (string_bytes text.new ≡ string_bytes text.old ++ kind_text kind.now) }
+    ensures text { OnOk result (string_bytes text.new ≡ string_bytes text.old ++ kind_text kind.now) }
+    ensures fits { OnOk result (FitsKind kind.now) }
 {
     match kind {
         Kind::Alu { hart, pc } => push_at_pc(text, "alu", *hart, *pc),
@@ -56,7 +58,8 @@ pub fn push_kind(text: &mut String, kind: &Kind) -> Result<(), OutOfMemory>
 
 /// A name and a hart.
 fn push_of_hart(text: &mut String, name: &str, hart: HartId) -> Result<(), OutOfMemory>
-    ensures { OnOk result (string_bytes text.new ≡ string_bytes text.old ++ of_hart name.now hart) }
+    ensures text { OnOk result (string_bytes text.new ≡ string_bytes text.old ++ of_hart name.now hart) }
+    ensures fits { OnOk result (IsShort hart.0) }
 {
     let hart = hart.0;
     write!(text, "{name} {hart}")?;
@@ -66,7 +69,8 @@ fn push_of_hart(text: &mut String, name: &str, hart: HartId) -> Result<(), OutOf
 /// A name, a hart, and the address of its instruction.
 #[tactic(auto, unfolding(crate::specs::Spelling::hex))]
 fn push_at_pc(text: &mut String, name: &str, hart: HartId, pc: u32) -> Result<(), OutOfMemory>
-    ensures { OnOk result (string_bytes text.new ≡ string_bytes text.old ++ at_pc name.now hart pc) }
+    ensures text { OnOk result (string_bytes text.new ≡ string_bytes text.old ++ at_pc name.now hart pc) }
+    ensures fits { OnOk result (IsShort hart.0 × IsShort pc) }
 {
     let hart = hart.0;
     write!(text, "{name} {hart} {pc:08x}")?;
@@ -80,7 +84,8 @@ fn push_of_line(
     hart: HartId,
     line: LineId,
 ) -> Result<(), OutOfMemory>
-    ensures { OnOk result (string_bytes text.new ≡ string_bytes text.old ++ (of_hart name.now hart ++ space ++ decimal line.0)) }
+    ensures text { OnOk result (string_bytes text.new ≡ string_bytes text.old ++ (of_hart name.now hart ++ space ++ decimal line.0)) }
+    ensures fits { OnOk result (IsShort hart.0 × IsShort line.0) }
 {
     push_of_hart(text, name, hart)?;
     let line = line.0;
@@ -90,7 +95,8 @@ fn push_of_line(
 
 /// A name and an access.
 fn push_accessed(text: &mut String, name: &str, access: &Access) -> Result<(), OutOfMemory>
-    ensures { OnOk result (string_bytes text.new ≡ string_bytes text.old ++ (name.now ++ access_text access.now)) }
+    ensures text { OnOk result (string_bytes text.new ≡ string_bytes text.old ++ (name.now ++ access_text access.now)) }
+    ensures fits { OnOk result (FitsAccess access.now) }
 {
     text.push_str(name)?;
     push_access(text, access)
@@ -98,7 +104,8 @@ fn push_accessed(text: &mut String, name: &str, access: &Access) -> Result<(), O
 
 /// A hint, and the slot that it opened or `-`.
 fn push_hint(text: &mut String, hart: HartId, pc: u32, slot: Option<u32>) -> Result<(), OutOfMemory>
-    ensures { OnOk result (string_bytes text.new ≡ string_bytes text.old ++ kind_text (Kind.Hint hart pc slot)) }
+    ensures text { OnOk result (string_bytes text.new ≡ string_bytes text.old ++ kind_text (Kind.Hint hart pc slot)) }
+    ensures fits { OnOk result (FitsKind (Kind.Hint hart pc slot)) }
 {
     push_at_pc(text, "hint", hart, pc)?;
     match slot {
@@ -111,7 +118,8 @@ fn push_hint(text: &mut String, hart: HartId, pc: u32, slot: Option<u32>) -> Res
 /// A byte that is put on the console.
 #[tactic(auto, unfolding(crate::specs::Spelling::hex_byte))]
 fn push_put(text: &mut String, hart: HartId, pc: u32, byte: u8) -> Result<(), OutOfMemory>
-    ensures { OnOk result (string_bytes text.new ≡ string_bytes text.old ++ kind_text (Kind.Put hart pc byte)) }
+    ensures text { OnOk result (string_bytes text.new ≡ string_bytes text.old ++ kind_text (Kind.Put hart pc byte)) }
+    ensures fits { OnOk result (FitsKind (Kind.Put hart pc byte)) }
 {
     push_at_pc(text, "put", hart, pc)?;
     write!(text, " {byte:02x}")?;
@@ -120,7 +128,8 @@ fn push_put(text: &mut String, hart: HartId, pc: u32, byte: u8) -> Result<(), Ou
 
 /// The end of a hart.
 fn push_stop(text: &mut String, hart: HartId, pc: u32, end: End) -> Result<(), OutOfMemory>
-    ensures { OnOk result (string_bytes text.new ≡ string_bytes text.old ++ kind_text (Kind.Stop hart pc end)) }
+    ensures text { OnOk result (string_bytes text.new ≡ string_bytes text.old ++ kind_text (Kind.Stop hart pc end)) }
+    ensures fits { OnOk result (FitsKind (Kind.Stop hart pc end)) }
 {
     push_at_pc(text, "stop", hart, pc)?;
     text.push_str(" ")?;
@@ -129,7 +138,8 @@ fn push_stop(text: &mut String, hart: HartId, pc: u32, end: End) -> Result<(), O
 
 /// A load, and the level that had its line.
 fn push_load(text: &mut String, access: &Access, level: u32) -> Result<(), OutOfMemory>
-    ensures { OnOk result (string_bytes text.new ≡ string_bytes text.old ++ kind_text (Kind.Load access.now level)) }
+    ensures text { OnOk result (string_bytes text.new ≡ string_bytes text.old ++ kind_text (Kind.Load access.now level)) }
+    ensures fits { OnOk result (FitsKind (Kind.Load access.now level)) }
 {
     push_accessed(text, "load ", access)?;
     write!(text, " {level}")?;
@@ -144,7 +154,8 @@ fn push_commit(
     line: LineId,
     version: u64,
 ) -> Result<(), OutOfMemory>
-    ensures { OnOk result (string_bytes text.new ≡ string_bytes text.old ++ kind_text (Kind.Commit hart number line version)) }
+    ensures text { OnOk result (string_bytes text.new ≡ string_bytes text.old ++ kind_text (Kind.Commit hart number line version)) }
+    ensures fits { OnOk result (FitsKind (Kind.Commit hart number line version)) }
 {
     let hart = hart.0;
     let line = line.0;
@@ -159,7 +170,8 @@ fn push_rmw(
     line: LineId,
     version: u64,
 ) -> Result<(), OutOfMemory>
-    ensures { OnOk result (string_bytes text.new ≡ string_bytes text.old ++ kind_text (Kind.Rmw access.now line version)) }
+    ensures text { OnOk result (string_bytes text.new ≡ string_bytes text.old ++ kind_text (Kind.Rmw access.now line version)) }
+    ensures fits { OnOk result (FitsKind (Kind.Rmw access.now line version)) }
 {
     push_accessed(text, "rmw ", access)?;
     let line = line.0;
@@ -169,7 +181,8 @@ fn push_rmw(
 
 /// The message of a lock instruction.
 fn push_sent(text: &mut String, hart: HartId, msg: &Msg) -> Result<(), OutOfMemory>
-    ensures { OnOk result (string_bytes text.new ≡ string_bytes text.old ++ kind_text (Kind.LockSend hart msg.now)) }
+    ensures text { OnOk result (string_bytes text.new ≡ string_bytes text.old ++ kind_text (Kind.LockSend hart msg.now)) }
+    ensures fits { OnOk result (FitsKind (Kind.LockSend hart msg.now)) }
 {
     push_of_hart(text, "locksend", hart)?;
     text.push_str(" ")?;
@@ -184,7 +197,8 @@ fn push_ask(
     line: LineId,
     own: bool,
 ) -> Result<(), OutOfMemory>
-    ensures { OnOk result (string_bytes text.new ≡ string_bytes text.old ++ kind_text (Kind.Ask slot hart line own)) }
+    ensures text { OnOk result (string_bytes text.new ≡ string_bytes text.old ++ kind_text (Kind.Ask slot hart line own)) }
+    ensures fits { OnOk result (FitsKind (Kind.Ask slot hart line own)) }
 {
     let hart = hart.0;
     let line = line.0;
@@ -201,7 +215,8 @@ fn own_name(own: bool) -> &'static str
 
 /// A slot that asked again.
 fn push_again(text: &mut String, slot: u32, line: LineId) -> Result<(), OutOfMemory>
-    ensures { OnOk result (string_bytes text.new ≡ string_bytes text.old ++ kind_text (Kind.Again slot line)) }
+    ensures text { OnOk result (string_bytes text.new ≡ string_bytes text.old ++ kind_text (Kind.Again slot line)) }
+    ensures fits { OnOk result (FitsKind (Kind.Again slot line)) }
 {
     let line = line.0;
     write!(text, "again {slot} {line}")?;
@@ -210,7 +225,8 @@ fn push_again(text: &mut String, slot: u32, line: LineId) -> Result<(), OutOfMem
 
 /// A line that entered a hart's caches.
 fn push_install(text: &mut String, slot: u32, hart: HartId, line: LineId) -> Result<(), OutOfMemory>
-    ensures { OnOk result (string_bytes text.new ≡ string_bytes text.old ++ kind_text (Kind.Install slot hart line)) }
+    ensures text { OnOk result (string_bytes text.new ≡ string_bytes text.old ++ kind_text (Kind.Install slot hart line)) }
+    ensures fits { OnOk result (FitsKind (Kind.Install slot hart line)) }
 {
     let hart = hart.0;
     let line = line.0;
@@ -220,7 +236,8 @@ fn push_install(text: &mut String, slot: u32, hart: HartId, line: LineId) -> Res
 
 /// A lock word that was freed, and by which cluster.
 fn push_free(text: &mut String, from: ClusterId, access: &Access) -> Result<(), OutOfMemory>
-    ensures { OnOk result (string_bytes text.new ≡ string_bytes text.old ++ kind_text (Kind.Free from access.now)) }
+    ensures text { OnOk result (string_bytes text.new ≡ string_bytes text.old ++ kind_text (Kind.Free from access.now)) }
+    ensures fits { OnOk result (FitsKind (Kind.Free from access.now)) }
 {
     let from = from.0;
     write!(text, "free {from} ")?;
@@ -229,7 +246,8 @@ fn push_free(text: &mut String, from: ClusterId, access: &Access) -> Result<(), 
 
 /// A message that was taken, and from which cluster.
 fn push_taken(text: &mut String, from: ClusterId, msg: &Msg) -> Result<(), OutOfMemory>
-    ensures { OnOk result (string_bytes text.new ≡ string_bytes text.old ++ kind_text (Kind.Take from msg.now)) }
+    ensures text { OnOk result (string_bytes text.new ≡ string_bytes text.old ++ kind_text (Kind.Take from msg.now)) }
+    ensures fits { OnOk result (FitsKind (Kind.Take from msg.now)) }
 {
     let from = from.0;
     write!(text, "take {from} ")?;

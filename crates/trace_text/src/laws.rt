@@ -7,8 +7,8 @@ pub fn texts_tell_logs()
     ensures { TextsTellLogs }
 {}
 
-/// Reading gives back what was written: of the text of a log, whose numbers are within the bounds of their
-/// types, that log is the only one that `read_log` may give.
+/// Reading gives back what was written: where `write_log` made a text of one log, and `read_log` gives a log
+/// of that text, it is the same log.
 pub fn reading_gives_back()
     ensures { ReadingGivesBack }
 {}

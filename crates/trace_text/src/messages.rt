@@ -1,5 +1,6 @@
 //! The text of messages.
 ghost use Rattle.std.specs.Prelude.{◌≡◌, ◌++◌, ℕ, List, decimal, OnOk, string_bytes};
+ghost use Rattle.trace_text.specs.Fits.{IsShort, FitsLine, FitsMsg};
 ghost use Rattle.trace_text.specs.Spelling.{space, hex};
 ghost use Rattle.trace_text.specs.MsgText.{copy_text, of_line, msg_text};
 
@@ -9,7 +10,8 @@ use std::fmt::Write;
 
 /// Appends a message: its name and its fields.
 pub fn push_msg(text: &mut String, msg: &Msg) -> Result<(), OutOfMemory>
-    ensures { OnOk result (string_bytes text.new ≡ string_bytes text.old ++ msg_text msg.now) }
+    ensures text { OnOk result (string_bytes text.new ≡ string_bytes text.old ++ msg_text msg.now) }
+    ensures fits { OnOk result (FitsMsg msg.now) }
 {
     match msg {
         Msg::Read { line } => push_line(text, "read", *line),
@@ -45,7 +47,8 @@ pub fn push_msg(text: &mut String, msg: &Msg) -> Result<(), OutOfMemory>
 
 /// A name and a line's number.
 fn push_line(text: &mut String, name: &str, line: LineId) -> Result<(), OutOfMemory>
-    ensures { OnOk result (string_bytes text.new ≡ string_bytes text.old ++ of_line name.now line) }
+    ensures text { OnOk result (string_bytes text.new ≡ string_bytes text.old ++ of_line name.now line) }
+    ensures fits { OnOk result (IsShort line.0) }
 {
     let line = line.0;
     write!(text, "{name} {line}")?;
@@ -54,7 +57,8 @@ fn push_line(text: &mut String, name: &str, line: LineId) -> Result<(), OutOfMem
 
 /// A name, a line's number, and the cluster that asked for the line.
 fn push_for(text: &mut String, name: &str, line: LineId, to: ClusterId) -> Result<(), OutOfMemory>
-    ensures { OnOk result (string_bytes text.new ≡ string_bytes text.old ++ (of_line name.now line ++ space ++ decimal to.0)) }
+    ensures text { OnOk result (string_bytes text.new ≡ string_bytes text.old ++ (of_line name.now line ++ space ++ decimal to.0)) }
+    ensures fits { OnOk result (IsShort line.0 × IsShort to.0) }
 {
     push_line(text, name, line)?;
     let to = to.0;
@@ -64,7 +68,8 @@ fn push_for(text: &mut String, name: &str, line: LineId, to: ClusterId) -> Resul
 
 /// A name, a line's number, and the line's content.
 fn push_copied(text: &mut String, name: &str, line: LineId, copy: &Line) -> Result<(), OutOfMemory>
-    ensures { OnOk result (string_bytes text.new ≡ string_bytes text.old ++ (of_line name.now line ++ space ++ copy_text copy.now)) }
+    ensures text { OnOk result (string_bytes text.new ≡ string_bytes text.old ++ (of_line name.now line ++ space ++ copy_text copy.now)) }
+    ensures fits { OnOk result (IsShort line.0 × FitsLine copy.now) }
 {
     push_line(text, name, line)?;
     text.push_str(" ")?;
@@ -74,7 +79,8 @@ fn push_copied(text: &mut String, name: &str, line: LineId, copy: &Line) -> Resu
 /// The content of a line.
 #[tactic(auto, unfolding(crate::specs::MsgText::copy_text))]
 fn push_copy(text: &mut String, copy: &Line) -> Result<(), OutOfMemory>
-    ensures { OnOk result (string_bytes text.new ≡ string_bytes text.old ++ copy_text copy.now) }
+    ensures text { OnOk result (string_bytes text.new ≡ string_bytes text.old ++ copy_text copy.now) }
+    ensures fits { OnOk result (FitsLine copy.now) }
 {
     push_word(text, copy.words[0])?;
     push_word(text, copy.words[1])?;
@@ -88,7 +94,8 @@ fn push_copy(text: &mut String, copy: &Line) -> Result<(), OutOfMemory>
 /// A word, and a space behind it.
 #[tactic(auto, unfolding(crate::specs::Spelling::hex))]
 fn push_word(text: &mut String, word: u32) -> Result<(), OutOfMemory>
-    ensures { OnOk result (string_bytes text.new ≡ string_bytes text.old ++ (hex word ++ space)) }
+    ensures text { OnOk result (string_bytes text.new ≡ string_bytes text.old ++ (hex word ++ space)) }
+    ensures fits { OnOk result (IsShort word) }
 {
     write!(text, "{word:08x} ")?;
     Ok(())
@@ -102,7 +109,8 @@ fn push_copied_with(
     copy: &Line,
     number: u32,
 ) -> Result<(), OutOfMemory>
-    ensures { OnOk result (string_bytes text.new ≡ string_bytes text.old ++ (of_line name.now line ++ space ++ copy_text copy.now ++ space ++ decimal number)) }
+    ensures text { OnOk result (string_bytes text.new ≡ string_bytes text.old ++ (of_line name.now line ++ space ++ copy_text copy.now ++ space ++ decimal number)) }
+    ensures fits { OnOk result (IsShort line.0 × FitsLine copy.now × IsShort number) }
 {
     push_copied(text, name, line, copy)?;
     write!(text, " {number}")?;
@@ -118,7 +126,8 @@ fn push_ask(
     word: WordAddr,
     value: u32,
 ) -> Result<(), OutOfMemory>
-    ensures { OnOk result (string_bytes text.new ≡ string_bytes text.old ++ msg_text (Msg.LockAsk hart number word value)) }
+    ensures text { OnOk result (string_bytes text.new ≡ string_bytes text.old ++ msg_text (Msg.LockAsk hart number word value)) }
+    ensures fits { OnOk result (FitsMsg (Msg.LockAsk hart number word value)) }
 {
     let hart = hart.0;
     let word = word.0;
@@ -134,7 +143,8 @@ fn push_unlock(
     number: u32,
     word: WordAddr,
 ) -> Result<(), OutOfMemory>
-    ensures { OnOk result (string_bytes text.new ≡ string_bytes text.old ++ msg_text (Msg.Unlock hart number word)) }
+    ensures text { OnOk result (string_bytes text.new ≡ string_bytes text.old ++ msg_text (Msg.Unlock hart number word)) }
+    ensures fits { OnOk result (FitsMsg (Msg.Unlock hart number word)) }
 {
     let hart = hart.0;
     let word = word.0;
@@ -144,7 +154,8 @@ fn push_unlock(
 
 /// A hart is granted its lock word.
 fn push_grant(text: &mut String, hart: HartId) -> Result<(), OutOfMemory>
-    ensures { OnOk result (string_bytes text.new ≡ string_bytes text.old ++ msg_text (Msg.LockGrant hart)) }
+    ensures text { OnOk result (string_bytes text.new ≡ string_bytes text.old ++ msg_text (Msg.LockGrant hart)) }
+    ensures fits { OnOk result (FitsMsg (Msg.LockGrant hart)) }
 {
     let hart = hart.0;
     write!(text, "lockgrant {hart}")?;
@@ -154,7 +165,8 @@ fn push_grant(text: &mut String, hart: HartId) -> Result<(), OutOfMemory>
 /// A hart is told that its lock word was given back, and what it held.
 #[tactic(auto, unfolding(crate::specs::Spelling::hex))]
 fn push_unlocked(text: &mut String, hart: HartId, old: u32) -> Result<(), OutOfMemory>
-    ensures { OnOk result (string_bytes text.new ≡ string_bytes text.old ++ msg_text (Msg.UnlockAck hart old)) }
+    ensures text { OnOk result (string_bytes text.new ≡ string_bytes text.old ++ msg_text (Msg.UnlockAck hart old)) }
+    ensures fits { OnOk result (FitsMsg (Msg.UnlockAck hart old)) }
 {
     let hart = hart.0;
     write!(text, "unlockack {hart} {old:08x}")?;
