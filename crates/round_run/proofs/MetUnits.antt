@@ -1,10 +1,9 @@
 -- Two units that met, among all.
-use Rattle.std.proofs.Common.{◌≡◌, ℕ, ◌+◌, ◌-◌, ◌<◌, List, [], ◌∷◌, ◌++◌, length, slice_index_or, slice_set, refl, sym, ap, ◌∙◌, subst, arith}
-use Rattle.std.proofs.lemmas.List.{length-set, length-append, get_or-set_same, get_or-set_other, set-append_left, set-append_right, append-nil, get_or_append_left, get_or-append-add}
+use Rattle.std.proofs.Common.{◌≡◌, ℕ, ◌+◌, ◌-◌, ◌<◌, List, ◌++◌, length, slice_index_or, slice_set, sym, ap, ◌∙◌, subst, arith}
+use Rattle.std.proofs.lemmas.List.{length-set, length-append, get_or-set_same, get_or-set_other, set-append_left, set-append_right, get_or_append_left, get_or-append-add}
 use mathlib.Core.List.{IsPrefix}
 use Rattle.dash_base.specs.declared.topology.Topology.{Topology}
 use Rattle.dash_msg.specs.declared.classes.Class.{Class}
-use Rattle.dash_msg.specs.declared.classes.Class.TheVariants.{Request, Reply}
 use Rattle.mesh_lanes.specs.View.{OutletView, InletView}
 use Rattle.cluster_unit.specs.View.{CoreView}
 use Rattle.cluster_unit.specs.Ends.{place}

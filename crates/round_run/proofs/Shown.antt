@@ -1,5 +1,5 @@
 -- Lanes whose ends met, and that of all units.
-use Rattle.std.proofs.Common.{◌≡◌, ◌⊎◌, ℕ, ◌+◌, ◌<◌, zero, suc, List, [], ◌∷◌, ◌++◌, length, slice_index_or, refl, sym, ap, ◌∙◌, subst, inl, inr, arith}
+use Rattle.std.proofs.Common.{◌≡◌, ◌⊎◌, ℕ, ◌+◌, ◌<◌, List, [], ◌∷◌, ◌++◌, length, slice_index_or, refl, sym, ap, ◌∙◌, subst, inl, inr, arith}
 use Rattle.std.proofs.lemmas.List.{append_assoc, length-append}
 use mathlib.Core.List.{IsPrefix}
 use Rattle.dash_msg.specs.declared.classes.Class.{Class}
@@ -9,7 +9,7 @@ use Rattle.mesh_lanes.specs.View.{OutletView, InletView}
 use Rattle.dash_model.proofs.LawsOffered.{last_or_below}
 use Rattle.cluster_unit.specs.Ends.{place}
 use Rattle.cluster_unit.specs.Meeting.{EndsMet}
-use Rattle.round_run.specs.Units.{UnitView, OnlyMet, IsShown, Each, IsMet, HaveMet, AllHaveMet}
+use Rattle.round_run.specs.Units.{UnitView, OnlyMet, IsShown, Each, IsMet, HaveMet}
 
 -- what is known is some, or all that there is
 some_or_none : (n : ℕ) (known spool : List Parcel) → n ≡ length known + length spool → (0 < n → 0 < length known) → (known ++ spool ≡ []) ⊎ (0 < length known)

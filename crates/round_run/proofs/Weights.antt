@@ -1,5 +1,5 @@
 -- Settling lowers the weight of what is on its way and left, and where none has anything to do nothing is on its way.
-use Rattle.std.proofs.Common.{◌≡◌, ◌⊎◌, ℕ, zero, suc, ◌+◌, ◌-◌, ◌*◌, ◌<◌, ◌≤◌, ◌==◌, ◌&&◌, Bool, true, false, IsTrue, IsFalse, Option, None, Some, List, [], ◌∷◌, ◌++◌, length, slice_get, slice_index_or, slice_set, unwrap_or, refl, sym, ap, ap₂, ◌∙◌, subst, inl, inr, arith}
+use Rattle.std.proofs.Common.{◌≡◌, ◌⊎◌, ℕ, zero, suc, ◌+◌, ◌*◌, ◌<◌, ◌≤◌, ◌==◌, ◌&&◌, Bool, true, false, IsTrue, IsFalse, Option, None, Some, List, [], ◌∷◌, ◌++◌, length, slice_get, slice_index_or, slice_set, unwrap_or, refl, sym, ap, ap₂, ◌∙◌, subst, inl, inr, arith}
 use Rattle.std.proofs.lemmas.Bool.Decides.{nat_tests}
 use Rattle.std.proofs.lemmas.List.{append-nil, get_or-set_same, get_or_default}
 use Rattle.std.proofs.lemmas.Option.{unwrap_or-slice_get, slice_get-get_or}
@@ -11,23 +11,23 @@ use Rattle.dash_msg.specs.declared.parcel.Parcel.{Parcel}
 use Rattle.mesh_lanes.specs.View.{OutletView, InletView}
 use Rattle.dash_model.specs.Maps.{total}
 use Rattle.dash_model.specs.Config.{Config, cluster_id}
-use Rattle.dash_model.specs.Part.{Part, opening_part}
+use Rattle.dash_model.specs.Part.{opening_part}
 use Rattle.dash_model.specs.LocalRun.{part_at}
 use Rattle.dash_model.proofs.LawsOffered.{total_same, total_le, total_add, total_swap, total_none, last_or_below}
 use Rattle.unit_rows.specs.declared.choice.Choice.TheVariants.{Take}
 use Rattle.cluster_unit.specs.declared.turn.Turn.{Turn}
 use Rattle.cluster_unit.specs.declared.turn.Turn.TheVariants.{Did, Idle}
 use Rattle.cluster_unit.specs.View.{CoreView}
-use Rattle.cluster_unit.specs.Ends.{place, knows, Looked}
+use Rattle.cluster_unit.specs.Ends.{place, knows}
 use Rattle.cluster_unit.specs.Core.{HasRun, IsAt}
 use Rattle.cluster_unit.specs.Turns.{spent}
 use Rattle.cluster_unit.specs.Reserving.{Reserved}
-use Rattle.cluster_unit.specs.Settling.{FirstToSettle, Settles}
+use Rattle.cluster_unit.specs.Settling.{Settles}
 use Rattle.cluster_unit.specs.Serial.{Stepped}
 use Rattle.cluster_unit.specs.Picking.{steps_after, ahead_after}
 use Rattle.cluster_unit.specs.Weight.{parcels_weight, sent_weight, received_weight, went_to, came_from, went_out, came_in, IsLighter}
 use Rattle.cluster_unit.proofs.LawsOffered.{parcels_more, went_same, came_same}
-use Rattle.round_run.specs.Units.{UnitView, IsSame, HasCounts, OnlyMet, IsShown, ShowsNone, NoneToGrant, Each, IsMesh, HaveMet, AllHaveMet, IsEmptied, AreEmptied, NoneGrants}
+use Rattle.round_run.specs.Units.{UnitView, IsSame, HasCounts, OnlyMet, IsShown, ShowsNone, NoneToGrant, Each, IsMesh, HaveMet, AllHaveMet, AreEmptied, NoneGrants}
 use Rattle.round_run.specs.Weight.{IsNoHeavier, IsEased, Rests, SettledBy, is_idle, given_by, taken_by, given, received, weight_among, OneSettled, AllSettledBy}
 use Rattle.round_run.proofs.Eaches.{each_again, each_then, each_at, each_weaker, counts_again, counts_then, known_again, met_again, met_then, met_counts, counts_same, mesh_stays}
 use Rattle.round_run.proofs.MetUnits.{emptied_stays}

@@ -1,5 +1,5 @@
 -- What is on its way between the units of a machine, and left to settle at them, by weights.
-use Rattle.std.specs.Prelude.{◌≡◌, ℕ, ◌+◌, ◌-◌, ◌<◌, ◌≤◌, Bool, true, false, IsTrue, IsFalse, Option, None, Some, List, length, slice_get, slice_index_or}
+use Rattle.std.specs.Prelude.{ℕ, ◌+◌, ◌-◌, ◌<◌, ◌≤◌, Bool, true, false, IsTrue, IsFalse, Option, None, Some, List, length, slice_get, slice_index_or}
 use Rattle.dash_model.specs.Maps.{total}
 use Rattle.cluster_unit.specs.declared.turn.Turn.{Turn}
 use Rattle.cluster_unit.specs.declared.turn.Turn.TheVariants.{Did, Idle}

@@ -1,4 +1,4 @@
-use Rattle.std.proofs.Common.{◌<◌, length, sym, subst, arith}
+use Rattle.std.proofs.Common.{◌<◌, sym, subst, arith}
 use Rattle.round_run.specs.Units.{seen}
 use Rattle.round_run.proofs.Weights.{none_settled, next_eased, next_settled, all_settled}
 use Rattle.round_run.proofs.settle.settle_each.Goals as goal
