@@ -25,7 +25,8 @@ impl Model for Image {
 }
 
 impl Image {
-    pub(crate) fn new(entry: u32, segments: Vec<Segment>) -> Image
+    /// The image of these segments, in this order, whose run begins at `entry`.
+    pub fn new(entry: u32, segments: Vec<Segment>) -> Image
         ensures { result ≡ record { entry = entry; segments = segments.items } }
     {
         Image { entry, segments }

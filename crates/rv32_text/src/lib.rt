@@ -13,7 +13,7 @@ use itoa::Buffer;
 use rv32_decode::{Hint, hint};
 
 pub mod laws;
-mod names;
+pub mod names;
 
 /// The spelling of an instruction, such as `lw t0,-4(sp)`.
 pub fn text(i: &Instr) -> ArrayString<48>

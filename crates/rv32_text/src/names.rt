@@ -50,6 +50,7 @@ pub fn register(number: u32) -> &'static str
     }
 }
 
+/// The name of a branch.
 pub fn branch_name(op: BranchOp) -> &'static str
     ensures name { result.now ≡ branch_name op }
     ensures short { length result.now ≤ 4 }
@@ -64,6 +65,7 @@ pub fn branch_name(op: BranchOp) -> &'static str
     }
 }
 
+/// The name of a load.
 pub fn load_name(op: LoadOp) -> &'static str
     ensures name { result.now ≡ load_name op }
     ensures short { length result.now ≤ 3 }
@@ -77,6 +79,7 @@ pub fn load_name(op: LoadOp) -> &'static str
     }
 }
 
+/// The name of a store.
 pub fn store_name(op: StoreOp) -> &'static str
     ensures name { result.now ≡ store_name op }
     ensures short { length result.now ≤ 2 }
@@ -88,6 +91,7 @@ pub fn store_name(op: StoreOp) -> &'static str
     }
 }
 
+/// The name of an operation on two registers.
 pub fn alu_name(op: AluOp) -> &'static str
     ensures name { result.now ≡ alu_name op }
     ensures short { length result.now ≤ 6 }
@@ -134,6 +138,7 @@ pub fn immediate_name(op: AluOp) -> &'static str
     }
 }
 
+/// The name of an atomic operation, with its width and without its labels.
 pub fn amo_name(op: AmoOp) -> &'static str
     ensures name { result.now ≡ amo_name op }
     ensures short { length result.now ≤ 9 }
@@ -166,6 +171,7 @@ pub fn label_suffix(labels: Labels) -> &'static str
     }
 }
 
+/// The name of a prefetch.
 pub fn prefetch_name(kind: HintKind) -> &'static str
     ensures name { result.now ≡ prefetch_name kind }
     ensures short { length result.now ≤ 10 }
