@@ -116,4 +116,5 @@ pub mod RunsAdmissible
 pub mod LocalHarts
 pub mod LocalWeights
 pub mod LocalQueues
+pub mod RunEnds
 pub mod LawsOffered

@@ -1,5 +1,5 @@
 -- In every run the accesses of a lock word count 0, 1, 2 and so on, each reads what the one before it wrote, and a Grant reads 0.
-use Rattle.std.proofs.Common.{◌≡◌, ◌≢◌, ℕ, ◌<◌, ◌==◌, Bool, true, false, cond, Some, List, [], ◌∷◌, ◌++◌, sum_by, length, map, unwrap_or, refl, sym, ap, ◌∙◌, subst, arith}
+use Rattle.std.proofs.Common.{◌≡◌, ◌≢◌, ℕ, ◌==◌, Bool, true, false, cond, Some, List, [], ◌∷◌, ◌++◌, sum_by, length, map, unwrap_or, refl, sym, ap, ◌∙◌, subst, arith}
 use Rattle.std.specs.Prelude.{take}
 use Rattle.std.proofs.lemmas.List.{length-append}
 use Rattle.dash_base.specs.declared.id.WordAddr.{WordAddr}
@@ -22,6 +22,7 @@ use Rattle.dash_model.specs.Row.{row}
 use Rattle.dash_model.specs.Machine.{Machine, event_of, part_after, IsRun, Reaches}
 use Rattle.dash_model.specs.Log.{IsEventAt}
 use Rattle.dash_model.specs.Coherent.{ServesLock, IsLockEvent, lock_uses, ReadsLock, reads_first, reads_last}
+use Rattle.dash_model.specs.RunEnds.{LastUse, Unused, Used, value_of}
 use Rattle.dash_model.proofs.Tests.{same, is_same, differ, both_left, both_right}
 use Rattle.dash_model.proofs.InRuns.{in_runs}
 use Rattle.dash_model.proofs.Happened.{Happened, happened, before_is}
@@ -115,11 +116,6 @@ served w c (kind.Free f b) d p a can is =
     subst (λ z. IsServed w c z p) is (record { own = both_right (has_hart w b.hart) (own_lock w c b.word) can.serves; read = (frees b.hart.0 b.number (p.locks (lock_at w b.word.0)).value b.word true b can.access.made).read_is })
 served w c _ d p a can is = absurd is
 
--- the value of a lock word is what the last access of it in the log wrote, and 0 where the log has none
-data LastUse (log : List Event) (word : WordAddr) (value : ℕ) : Type 0 where
-  Unused : ((j : ℕ) (b : Access) → IsLockEvent log j b → b.word ≡ word → ⊥) → value ≡ 0 → LastUse log word value
-  Used : (j : ℕ) (b : Access) → IsLockEvent log j b → b.word ≡ word → ((k : ℕ) (c : Access) → IsLockEvent log k c → c.word ≡ word → j < k → ⊥) → b.written ≡ Some value → LastUse log word value
-
 lock_event_kept : (log : List Event) (e : Event) (j : ℕ) (b : Access) → IsLockEvent log j b → IsLockEvent (log ++ e ∷ []) j b
 lock_event_kept log e j b k = record { kind = k.kind; at = event_kept log (e ∷ []) j k.kind k.at; is = k.is }
 
@@ -145,10 +141,6 @@ last_by log e word old new (Writes a of at written) k =
     Used (length log) a (record { kind = e.kind; at = event_last log e; is = of }) at
     (λ j c x q low. (let inside = event_within (log ++ e ∷ []) j x.kind x.at in let size = length-append log (e ∷ []) in absurd (omega arith))) written
 
--- the value of a lock word at its home
-abbrev value_of : Config → Machine → WordAddr → ℕ
-value_of w m word = ((m.parts (lock_home w (lock_at w word.0))).locks (lock_at w word.0)).value
-
 elsewhere : (w : Config) (c : ℕ) (e : Kind) (d : HartEffect) (p : Part) (word : WordAddr) → Guard w c e d p → (lock_home w (lock_at w word.0) == c) ≡ false → (a : Access) → ServesLock e a → a.word ≡ word → ⊥
 elsewhere w c e d p word can off a of at =
     let home = both_right (is_lock w a.word.0) (lock_home w (lock_at w a.word.0) == c) (served w c e d p a can of).own in
@@ -163,7 +155,7 @@ step_by w log m e c d q word true is locks can i k =
     subst (λ (f : ℕ → Lock). LastUse (log ++ e ∷ []) word (f (lock_at w word.0)).value) (sym locks) (last_by log e word ((m.parts c).locks (lock_at w word.0)).value ((row w c e.kind d (m.parts c)).part.locks (lock_at w word.0)).value (word_turn w c e.kind d (m.parts c) word can i) there)
 step_by w log m e c d q word false is locks can i k = last_stays log e word (value_of w m word) (elsewhere w c e.kind d (m.parts c) word can is) k
 
-last_use : (w : Config) (log : List Event) (m : Machine) (word : WordAddr) → is_lock w word.0 ≡ true → Reaches w log m → LastUse log word (value_of w m word)
+pub last_use : (w : Config) (log : List Event) (m : Machine) (word : WordAddr) → is_lock w word.0 ≡ true → Reaches w log m → LastUse log word (value_of w m word)
 last_use w log m word i r =
     in_runs w (λ es n. LastUse es word (value_of w n word)) (Unused (λ j b k q. absurd (nowhere j k.kind k.at)) refl)
     (λ es n g reached can k. step_by w es n g.event g.event.cluster.0 g.done (part_after w g.event.cluster.0 g (n.parts g.event.cluster.0)) word (lock_home w (lock_at w word.0) == g.event.cluster.0) refl refl can.steps.guard i k) log m r

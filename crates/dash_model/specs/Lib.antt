@@ -51,3 +51,4 @@ pub mod TableLocks
 pub mod RunLaws
 pub mod LocalHarts
 pub mod LocalWeights
+pub mod RunEnds

@@ -10,6 +10,7 @@ ghost use Rattle.dash_model.specs.LockFacts.{MessagesAreInRange, LinesAreOfMemor
 ghost use Rattle.dash_model.specs.MachineLaws.{EventsFixEffects, LanesAreQueues, StepsChangeOnePart, StampsRise, CommitsAreNumbered, EventsHappen, LocalRunsGrow, MergesAreRuns};
 ghost use Rattle.dash_model.specs.OwedFacts.{RunsOweAsLogged};
 ghost use Rattle.dash_model.specs.PendingFacts.{PendingLinesAreKept};
+ghost use Rattle.dash_model.specs.RunEnds.{SettledRunsAreReplayed, LocksHaveLastUses, WaitersAsk};
 ghost use Rattle.dash_model.specs.RunLaws.{RunsAreAdmissible, RunsAreCoherent, RunsKeepReleases};
 ghost use Rattle.dash_model.specs.Settling.{WeightFalls};
 ghost use Rattle.dash_model.specs.TableAccesses.{RowsOfAccesses};
@@ -109,6 +110,23 @@ pub fn locks_are_counted()
 /// In a run each access of a lock word that is granted or freed is shown how many were before it.
 pub fn lock_uses_are_numbered()
     ensures { LockUsesAreNumbered }
+{}
+
+/// Where a run has nothing on its way, each hart of the machine stands as every replay of the log leaves it:
+/// all that the log records of the hart is done.
+pub fn settled_runs_are_replayed()
+    ensures { SettledRunsAreReplayed }
+{}
+
+/// In every run a lock word has at its home what its last use in the log wrote, a grant or a free, or 0 where
+/// the log has no use of it.
+pub fn locks_have_last_uses()
+    ensures { LocksHaveLastUses }
+{}
+
+/// In every run the next instruction of a hart in the queue of a lock word asks for that lock word.
+pub fn waiters_ask()
+    ensures { WaitersAsk }
 {}
 
 /// In every run each message that is taken, each Unlock that is served, each grant of a lock word, each line
