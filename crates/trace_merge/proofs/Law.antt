@@ -72,7 +72,10 @@ module _ (image : ImageView) (t : Topology) (log : List Event) (f : IsAdmissible
       by_order (inl shorter) before = before m shorter
       by_order (inr same) before = subst (IsRunTo image t log f labelled) (sym same) (next_run n (omega arith) before)
 
+  pub run_to_end : IsRunTo image t log f labelled (length log)
+  run_to_end = up_to (length log) (omega arith) (length log) (omega arith)
+
   pub is_sequential : IsSequentialRun image t (records_of log)
   is_sequential =
-      let r = up_to (length log) (omega arith) (length log) (omega arith) in
+      let r = run_to_end in
       record { final = r.state; runs = subst (λ rs. RunsTo image t rs r.state) (upto_all records_in log) r.runs }

@@ -31,3 +31,4 @@ pub mod Recursion
 pub mod Rising
 pub mod InTurn
 pub mod MergedLogs
+pub mod RunEnds

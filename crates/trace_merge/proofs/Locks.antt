@@ -61,9 +61,9 @@ module _ (image : ImageView) (t : Topology) (log : List Event) (f : IsAdmissible
   lock_access : (j address : ℕ) (b : Access) → IsLockEvent log j b → b.word.0 ≡ address → IsLockAccess address (unseen b)
   lock_access j address b e word = record { of_lock = served_op j e.kind b e.at e.is; same_word = word }
 
-  -- the lock word of the sequential machine is what the access reads
-  pub lock_agrees : (n : ℕ) (a : Access) (value : Option ℕ) → IsLockEvent log n a → IsLockBefore (steps log n) (length (steps log n)) a.word.0 value → a.read ≡ value
-  lock_agrees n a value event before = by_read (f.coherent.locks_are_chained n a event) before
+  -- the lock word of the sequential machine is what an access reads that reads what the last one before it wrote
+  pub reads_agree : (n : ℕ) (a : Access) (value : Option ℕ) → ReadsLock log n a → IsLockBefore (steps log n) (length (steps log n)) a.word.0 value → a.read ≡ value
+  reads_agree n a value reads before = by_read reads before
     where
       by_read : ReadsLock log n a → IsLockBefore (steps log n) (length (steps log n)) a.word.0 value → a.read ≡ value
       by_read (reads_first none zero) (inr first) = zero ∙ sym first.1
@@ -90,3 +90,7 @@ module _ (image : ImageView) (t : Topology) (log : List Event) (f : IsAdmissible
               let places : length (steps log o.at) < length (steps log j) = before_place records_in small_records log o.at j o.kind (step.Access last.0.access) o.is_at o.makes earlier_one in
               let place : last.0.at ≡ length (steps log o.at) = o.place in
               absurd (last.0.last (length (steps log j)) (unseen b) (place_of n j b e earlier) (lock_access j a.word.0 b e (ap (λ x. x.0) word)) (omega arith) (place_within n j b e earlier))
+
+  -- as each access of the log does
+  pub lock_agrees : (n : ℕ) (a : Access) (value : Option ℕ) → IsLockEvent log n a → IsLockBefore (steps log n) (length (steps log n)) a.word.0 value → a.read ≡ value
+  lock_agrees n a value event before = reads_agree n a value (f.coherent.locks_are_chained n a event) before

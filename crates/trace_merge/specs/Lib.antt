@@ -1,3 +1,4 @@
 pub mod OrderLaws
 pub mod WrittenLogs
 pub mod MergedLogs
+pub mod RunEnds

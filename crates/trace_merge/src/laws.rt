@@ -1,6 +1,7 @@
 //! Laws of logs. The functions do nothing: their contracts are the laws.
 ghost use Rattle.trace_merge.specs.OrderLaws.{CommitOrder, ConsoleIsTheRuns, OneHartIsInOrder, RunsAreSequential};
 ghost use Rattle.trace_merge.specs.MergedLogs.{MergedLogsAreRuns};
+ghost use Rattle.trace_merge.specs.RunEnds.{CompleteRunsAreComplete};
 ghost use Rattle.trace_merge.specs.WrittenLogs.{ForwardingIsAdmissible, MessageIsAdmissible, MessageIsProperlyLabelled, MessageIsInOrder};
 
 /// Where no sequential run of an image has a data race, the records of every admissible log, each at its
@@ -15,6 +16,14 @@ pub fn commit_order()
 /// run within the budgets, value for value.
 pub fn runs_are_sequential()
     ensures { RunsAreSequential }
+{}
+
+/// Where an image is properly labelled for a topology, the records of every complete run of the machine are a
+/// complete sequential run: in it too each hart has ended, has spent its budget, or waits for a lock word that
+/// is not 0. At its end each hart and each lock word is as in the machine, each byte of memory is what the last
+/// write of it in the log wrote, or the opening one, and the console is that of the log.
+pub fn complete_runs_are_complete()
+    ensures { CompleteRunsAreComplete }
 {}
 
 /// On a machine of one hart the records of every admissible log are a sequential run, whatever the image.
