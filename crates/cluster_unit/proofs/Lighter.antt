@@ -1,5 +1,5 @@
 -- What a core does to settle makes it lighter.
-use Rattle.std.proofs.Common.{◌≡◌, ◌≢◌, ◌⊎◌, ℕ, zero, suc, ◌+◌, ◌*◌, ◌<◌, ◌≤◌, ◌==◌, ◌&&◌, Bool, true, false, nat_lt, cond, Option, None, Some, List, [], ◌∷◌, ◌++◌, length, map, slice_get, slice_index_or, refl, sym, ap, ap₂, ◌∙◌, subst, inl, inr, arith}
+use Rattle.std.proofs.Common.{◌≡◌, ◌≢◌, ℕ, zero, suc, ◌+◌, ◌*◌, ◌<◌, ◌≤◌, ◌==◌, ◌&&◌, Bool, true, false, nat_lt, cond, Some, List, [], ◌∷◌, ◌++◌, length, map, slice_get, slice_index_or, refl, sym, ap, ap₂, ◌∙◌, subst, arith}
 use Rattle.std.proofs.lemmas.Bool.Decides.{nat_tests}
 use Rattle.dash_base.specs.declared.id.ClusterId.{ClusterId}
 use Rattle.dash_base.specs.declared.id.LineId.{LineId}
@@ -38,7 +38,7 @@ use Rattle.cluster_unit.specs.Weight.{parcels_weight, sent_weight, received_weig
 use Rattle.cluster_unit.proofs.Lanes.{parcels-append, same_itself}
 use Rattle.cluster_unit.proofs.Cores.{none_taken}
 use Rattle.cluster_unit.proofs.OnePart.{same_sent}
-use Rattle.cluster_unit.proofs.LastStep.{LastStep, last_step}
+use Rattle.cluster_unit.proofs.LastStep.{last_step}
 
 -- weights of lists
 pub parcels_more : (n : ℕ) (xs ys : List Parcel) → parcels_weight n (xs ++ ys) ≡ parcels_weight n xs + parcels_weight n ys

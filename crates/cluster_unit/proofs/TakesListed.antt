@@ -28,7 +28,7 @@ one_there : (x y : Choice) → Contains (y ∷ []) x → x ≡ y
 one_there x y (zero, low, e) = sym e
 one_there x y (suc k, low, e) = absurd (let f : k < 0 = grind arith in grind arith)
 
-none_there : (x : Choice) → Contains [] x → ⊥
+pub none_there : (x : Choice) → Contains [] x → ⊥
 none_there x (k, low, e) = grind arith
 
 there_if : (xs : List InletView) (f n : ℕ) (k : Class) (b : Bool) (x : Choice) → f < n → knows (slice_get xs (place f k)) ≡ b → Contains (take_if b f k) x → IsTakeOf xs n x

@@ -93,3 +93,13 @@ turned_one plan rotate choices t a listed b n number x lists run many below pick
         one = λ d some. (did.0, subst (λ y. Performed y Did listed b) (is ∙ get_or_default choices number x d low) did.1);
       };
     }
+
+-- so the turn was not idle
+pub none_idle : (choices : List Choice) (t : Turn) (a listed b : CoreView) (n number : ℕ) (x : Choice) → Lists a listed choices → HasRun listed → n ≡ length choices → number < n
+    → x ≡ slice_index_or choices number x → Performed x t listed b → t ≡ Idle → ⊥
+none_idle choices t a listed b n number x lists run many below is done idle =
+    let low : number < length choices = subst (λ m. number < m) many below in
+    let there : Contains choices x = (number, low, sym is) in
+    let at = at_run listed run in
+    let did = performed_did x t listed b (part_at listed.config listed.cluster (opening_part listed.config) run.history) at (lists.just x (part_at listed.config listed.cluster (opening_part listed.config) run.history) there at) done in
+    let e : Did ≡ Idle = sym did.0 ∙ idle in cc

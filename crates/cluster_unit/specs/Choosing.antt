@@ -1,5 +1,5 @@
 -- The choices that a unit lists, and the one that it does.
-use Rattle.std.specs.Prelude.{◌≡◌, ℕ, ◌<◌, ◌≤◌, true, List, [], length, slice_index_or, slice_get}
+use Rattle.std.specs.Prelude.{◌≡◌, ℕ, ◌<◌, ◌≤◌, true, false, List, [], length, slice_index_or, slice_get}
 use Rattle.std.specs.List.{Contains}
 use Rattle.dash_base.specs.declared.id.ClusterId.{ClusterId}
 use Rattle.dash_msg.specs.declared.classes.Class.{Class}
@@ -10,6 +10,7 @@ use Rattle.unit_rows.specs.Rows.{Enabled}
 use Rattle.cluster_unit.specs.declared.turn.Turn.{Turn}
 use Rattle.cluster_unit.specs.declared.turn.Turn.TheVariants.{Did, Idle}
 use Rattle.cluster_unit.specs.View.{CoreView}
+use Rattle.cluster_unit.specs.Enabling.{is_take}
 use Rattle.cluster_unit.specs.Ends.{place, knows, Looked}
 use Rattle.cluster_unit.specs.Order.{AreInOrder}
 use Rattle.cluster_unit.specs.Core.{IsAt}
@@ -32,6 +33,10 @@ pub record Lists (a b : CoreView) (choices : List Choice) : Type 0 where
   pub just : (x : Choice) (p : Part) → Contains choices x → IsAt b p → MayDo b x p
   pub whole : (x : Choice) (p : Part) → IsAt b p → MayDo b x p → Contains choices x
   pub ordered : (p : Part) → IsAt b p → AreInOrder b.config b.cluster p choices
+
+-- no choice is enabled but to take a message: what comes next, comes by a lane
+abbrev pub Rests : CoreView → Type 0
+Rests a = (x : Choice) (p : Part) → IsAt a p → is_take x ≡ false → Enabled a.config a.cluster x p → ⊥
 
 -- what a choice does
 abbrev pub Performed : Choice → Turn → CoreView → CoreView → Type 0

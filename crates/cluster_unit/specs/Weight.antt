@@ -1,6 +1,5 @@
 -- What is on its way and what is left to settle, by weights, as a core shows them.
 use Rattle.std.specs.Prelude.{ℕ, ◌+◌, ◌<◌, Option, None, Some, List, [], ◌∷◌, slice_get}
-use Rattle.dash_msg.specs.declared.classes.Class.{Class}
 use Rattle.dash_msg.specs.declared.classes.Class.TheVariants.{Request, Reply}
 use Rattle.dash_msg.specs.declared.parcel.Parcel.{Parcel}
 use Rattle.mesh_lanes.specs.View.{OutletView, InletView}

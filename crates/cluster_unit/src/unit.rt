@@ -3,7 +3,8 @@ ghost use Rattle.std.specs.Prelude.{◌≡◌, ℕ, ◌*◌, ◌<◌, ◌≤◌,
 ghost use Rattle.arbiter.specs.Picks.{Follows};
 ghost use Rattle.mesh_lanes.specs.View.{OutletView, InletView};
 ghost use Rattle.unit_rows.specs.Shown.{config};
-ghost use Rattle.cluster_unit.specs.Choosing.{Performed};
+ghost use Rattle.cluster_unit.specs.Choosing.{Performed, Rests};
+ghost use Rattle.cluster_unit.specs.declared.turn.Turn.TheVariants.{Idle};
 ghost use Rattle.cluster_unit.specs.Picking.{Turned, counted, steps_after, ahead_after};
 
 use crate::list::MOST_CHOICES;
@@ -62,15 +63,30 @@ impl Unit {
     }
 
     /// Does one of the choices that are enabled, as the arbiter picks it. A choice to take a message is
-    /// one where its lane showed it in this call. `Idle` where there is none.
+    /// one where its lane showed it in this call. `Idle` where there is none: then no choice is enabled but
+    /// to take a message.
     pub fn turn(&mut self) -> Turn
         requires { 0 < self.old.core.reserved }
         ensures turned { Turned (option_map (λ b. plan (b.vtable, b.value)) self.old.chooser.boxed) self.old.chooser.rotate self.new.choices.items result self.old.core self.new.core }
+        ensures rests { result ≡ Idle → Rests self.new.core }
+        ensures turns { self.new.turns ≡ counted self.old.turns }
+        ensures others { (self.new.steps ≡ self.old.steps) × (self.new.ahead ≡ self.old.ahead) }
+    {
+        self.turn_after(Turn::Did)
+    }
+
+    /// The same after a turn that did this, where nothing but turns came since: where it did nothing, only
+    /// the lanes are looked at, since what is not enabled stays so until a message comes.
+    pub fn turn_after(&mut self, last: Turn) -> Turn
+        requires reserved { 0 < self.old.core.reserved }
+        requires rests { last ≡ Idle → Rests self.old.core }
+        ensures turned { Turned (option_map (λ b. plan (b.vtable, b.value)) self.old.chooser.boxed) self.old.chooser.rotate self.new.choices.items result self.old.core self.new.core }
+        ensures rests { result ≡ Idle → Rests self.new.core }
         ensures turns { self.new.turns ≡ counted self.old.turns }
         ensures others { (self.new.steps ≡ self.old.steps) × (self.new.ahead ≡ self.old.ahead) }
     {
         self.turns = self.turns.saturating_add(1);
-        self.core.list(&mut self.choices);
+        self.core.list_after(last, &mut self.choices);
         self.core.has_run();
         if self.choices.is_empty() {
             self.core.spend();

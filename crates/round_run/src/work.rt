@@ -4,7 +4,7 @@ ghost use Rattle.round_run.specs.Units.{seen, HasCounts, Each, IsMesh, HaveReser
 ghost use Rattle.round_run.specs.Rounds.{Worked};
 
 use crate::gate::Gate;
-use cluster_unit::Unit;
+use cluster_unit::{Turn, Unit};
 use dash_base::{ClusterId, OutOfMemory};
 use std::thread;
 use std::thread::Threads;
@@ -48,7 +48,8 @@ fn work<G: Gate>(gate: &G, cluster: ClusterId, round: u64, unit: &mut Unit)
     ensures { Worked (seen unit.old.core unit.old.turns unit.old.steps unit.old.ahead) (seen unit.new.core unit.new.turns unit.new.steps unit.new.ahead) }
 {
     gate.pass(cluster, round);
+    let mut last = Turn::Did;
     for _turn in 0..TURNS {
-        unit.turn();
+        last = unit.turn_after(last);
     }
 }

@@ -4,7 +4,7 @@ use Rattle.unit_rows.specs.Shown.{shown}
 use Rattle.unit_rows.proofs.LawsOffered.{stores_are_of_memory}
 use Rattle.cluster_unit.specs.Choosing.{Lists}
 use Rattle.cluster_unit.specs.contracts.unit_core.Core.{the_view}
-use Rattle.cluster_unit.proofs.Listed.{core_listed, listed_back}
+use Rattle.cluster_unit.proofs.Listed.{core_listed, lists_at, listed_back}
 use Rattle.cluster_unit.proofs.unit_core.Core.list.Goals as goal
 
 pub list_own-requires-clause-stores : goal.list_own-requires-clause-stores
@@ -16,4 +16,4 @@ invariant_of-self c = core_listed (shown c.self.inside.parts) c.self.inside.last
 pub returns-clause-lists : goal.returns-clause-lists
 returns-clause-lists c =
     subst (λ a. Lists a (record (the_view c.self.inside) { inlets = (with_items c.self.inside.inlets c.list_takes.new.inlets).items }) c.list_takes.new.choices.items) c.self.view_is
-    (listed_back (shown c.self.inside.parts) c.self.inside.last (the_view c.self.inside) _ c.self.inside.inlets c.deref_mut.result.now c.list_takes.new.inlets c.list_own.new.choices.items c.list_takes.new.choices.items c.self.invariant c.list_own.ensures.lists c.deref_mut.ensures.value c.deref_mut.ensures.len c.list_takes.ensures.looked c.list_takes.ensures.takes)
+    (listed_back (the_view c.self.inside) c.self.inside.inlets c.deref_mut.result.now c.list_takes.new.inlets c.list_own.new.choices.items c.list_takes.new.choices.items (lists_at (shown c.self.inside.parts) c.self.inside.last (the_view c.self.inside) _ c.list_own.new.choices.items c.self.invariant c.list_own.ensures.lists) c.deref_mut.ensures.value c.deref_mut.ensures.len c.list_takes.ensures.looked c.list_takes.ensures.takes)
