@@ -14,18 +14,30 @@ use Rattle.hart_core.specs.Meaning.{Does}
 use Rattle.dash_model.specs.Complete.{IsQueued}
 use Rattle.dash_model.specs.Config.{Config}
 use Rattle.dash_model.specs.LockFacts.{queue_of}
+use Rattle.dash_model.specs.HartRows.{entry_of}
 use Rattle.dash_model.specs.Log.{IsEventAt}
 use Rattle.dash_model.specs.Maps.{weigh}
 use Rattle.dash_model.specs.Part.{Waiter}
 use Rattle.dash_model.specs.Replay.{Accesses, Harts, IsReplay, Moves, Replays}
-use Rattle.dash_model.specs.RunEnds.{AsksFor, LocksHaveLastUses, SettledRunsAreReplayed, WaitersAsk}
+use Rattle.dash_model.specs.RunEnds.{AsksFor, DrainedHartsHaveCommitted, LocksHaveLastUses, SettledRunsAreReplayed, WaitersAsk}
+use Rattle.dash_model.proofs.Earlier.{event_within}
+use Rattle.dash_model.proofs.Entries.{IsIn}
 use Rattle.dash_model.proofs.LockChain.{last_use}
 use Rattle.dash_model.proofs.LockCounts.{answers}
 use Rattle.dash_model.proofs.LockInstructions.{AllWait, core_at, each_asks}
 use Rattle.dash_model.proofs.ReplayedHarts.{replayed}
+use Rattle.dash_model.proofs.StoreOrder.{ordered}
 
 pub locks_have_last_uses : LocksHaveLastUses
 locks_have_last_uses w log m word r lock = last_use w log m word lock r
+
+-- ---- stores
+
+pub drained_harts_have_committed : DrainedHartsHaveCommitted
+drained_harts_have_committed w log m h j b r empty at mine = elim ((ordered w log m h r).stored j b at mine) [
+  | inl waits ↦ absurd (subst (IsIn (entry_of b)) empty waits)
+  | inr done ↦ record { at = done.at; line = done.line; version = done.version; is_at = done.is_at; before = event_within log done.at (kind.Commit b.hart b.number done.line done.version) done.is_at }
+]
 
 -- ---- waiters
 

@@ -154,7 +154,7 @@ ordered_kept w = record {
   other = λ c log e d p h s other can k. idles w log e h s s k (no_store w c e.kind d p h other can) (no_commit w c e.kind d p h other can) refl (omega arith);
 }
 
-ordered : (w : Config) (log : List Event) (m : Machine) (h : ℕ) → Reaches w log m → Ordered w log h (hart_at w m h)
+pub ordered : (w : Config) (log : List Event) (m : Machine) (h : ℕ) → Reaches w log m → Ordered w log h (hart_at w m h)
 ordered w log m h r = reached_keeps w (Ordered w) (ordered_kept w) log m r h (record {
   retired = λ j b at mine. absurd (cc);
   stored = λ j b at mine. absurd (cc);

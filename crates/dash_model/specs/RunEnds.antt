@@ -4,12 +4,14 @@ use Rattle.dash_base.specs.declared.id.WordAddr.{WordAddr}
 use Rattle.dash_base.specs.declared.need.Need.TheVariants.{Ask}
 use Rattle.dash_event.specs.declared.access.Access.{Access}
 use Rattle.dash_event.specs.declared.event.Event.{Event}
+use Rattle.dash_event.specs.declared.event.Kind.TheVariants.{Store}
 use Rattle.hart_core.specs.HartState.{HartState}
 use Rattle.hart_core.specs.Meaning.{Needs}
-use Rattle.dash_model.specs.Coherent.{IsLockEvent}
+use Rattle.dash_model.specs.Coherent.{IsCommittedBefore, IsLockEvent}
 use Rattle.dash_model.specs.Complete.{IsQueued, hart_at}
 use Rattle.dash_model.specs.Config.{Config, is_lock, lock_at, lock_home}
 use Rattle.dash_model.specs.LockFacts.{queue_of}
+use Rattle.dash_model.specs.Log.{IsEventAt}
 use Rattle.dash_model.specs.Machine.{Machine, Reaches}
 use Rattle.dash_model.specs.Replay.{Harts, IsReplay}
 
@@ -17,6 +19,11 @@ use Rattle.dash_model.specs.Replay.{Harts, IsReplay}
 abbrev pub SettledRunsAreReplayed : Type 0
 SettledRunsAreReplayed = (w : Config) (log : List Event) (m : Machine) (harts : ℕ → Harts) → Reaches w log m → m.net ≡ [] → IsReplay w.image w.top log harts
     → (h : ℕ) → harts (length log) h ≡ (hart_at w h m).core
+
+-- a hart whose write buffer is empty has committed each of its stores
+abbrev pub DrainedHartsHaveCommitted : Type 0
+DrainedHartsHaveCommitted = (w : Config) (log : List Event) (m : Machine) (h j : ℕ) (b : Access) → Reaches w log m → (hart_at w h m).buffer ≡ []
+    → IsEventAt log j (Store b) → b.hart.0 ≡ h → IsCommittedBefore log b (length log)
 
 -- the value of a lock word, at its home
 abbrev pub value_of : Config → Machine → WordAddr → ℕ

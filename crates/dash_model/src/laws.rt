@@ -10,7 +10,7 @@ ghost use Rattle.dash_model.specs.LockFacts.{MessagesAreInRange, LinesAreOfMemor
 ghost use Rattle.dash_model.specs.MachineLaws.{EventsFixEffects, LanesAreQueues, StepsChangeOnePart, StampsRise, CommitsAreNumbered, EventsHappen, LocalRunsGrow, MergesAreRuns};
 ghost use Rattle.dash_model.specs.OwedFacts.{RunsOweAsLogged};
 ghost use Rattle.dash_model.specs.PendingFacts.{PendingLinesAreKept};
-ghost use Rattle.dash_model.specs.RunEnds.{SettledRunsAreReplayed, LocksHaveLastUses, WaitersAsk};
+ghost use Rattle.dash_model.specs.RunEnds.{SettledRunsAreReplayed, DrainedHartsHaveCommitted, LocksHaveLastUses, WaitersAsk};
 ghost use Rattle.dash_model.specs.RunLaws.{RunsAreAdmissible, RunsAreCoherent, RunsKeepReleases};
 ghost use Rattle.dash_model.specs.Settling.{WeightFalls};
 ghost use Rattle.dash_model.specs.TableAccesses.{RowsOfAccesses};
@@ -116,6 +116,11 @@ pub fn lock_uses_are_numbered()
 /// all that the log records of the hart is done.
 pub fn settled_runs_are_replayed()
     ensures { SettledRunsAreReplayed }
+{}
+
+/// In every run a hart whose write buffer is empty has committed each store that the log has of it.
+pub fn drained_harts_have_committed()
+    ensures { DrainedHartsHaveCommitted }
 {}
 
 /// In every run a lock word has at its home what its last use in the log wrote, a grant or a free, or 0 where

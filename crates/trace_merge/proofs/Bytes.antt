@@ -1,6 +1,9 @@
 -- The bytes that an access is shown are those of the sequential machine's memory.
-use Rattle.std.proofs.Common.{◌≡◌, ◌≢◌, ◌⊎◌, inl, inr, ◌<◌, ℕ, suc, true, List, length, Some, sym, ◌∙◌, ap, subst, arith}
+use Rattle.std.proofs.Common.{◌≡◌, ◌≢◌, ◌⊎◌, inl, inr, ◌<◌, ◌≤◌, ℕ, refl, suc, true, List, length, Some, sym, ◌∙◌, ap, subst, arith}
 use Rattle.dash_base.specs.Words.{has_byte, byte_of_word}
+use Rattle.dash_base.specs.declared.id.HartId.{HartId}
+use Rattle.dash_base.specs.declared.id.LineId.{LineId}
+use Rattle.dash_base.specs.declared.id.WordAddr.{WordAddr}
 use Rattle.dash_base.specs.declared.topology.Topology.{Topology}
 use Rattle.elf_load.specs.Image.{ImageView, opening_word}
 use Rattle.dash_base.specs.Places.{line_of}
@@ -12,18 +15,18 @@ use Rattle.dash_event.specs.declared.step_record.StepRecord.TheVariants as step
 use Rattle.dash_event.specs.Effects.{is_of_memory}
 use Rattle.flat_model.specs.Order.{IsAccessAt}
 use Rattle.flat_model.specs.LastBefore.{WritesByte, IsByteBefore}
-use Rattle.dash_model.specs.Log.{IsEventAt, commit_in}
+use Rattle.dash_model.specs.Log.{IsCommitEvent, IsEventAt, commit_in, commits_of}
 use Rattle.dash_model.specs.LineContent.{word_at}
 use Rattle.dash_model.specs.Coherent.{IsCommittedBefore, IsShownOwn}
 use Rattle.dash_model.specs.Admissible.{IsAdmissible}
 use Rattle.trace_merge.proofs.Places.{upto_all, place_grows, from_place, at_place, place_before, before_place}
 use Rattle.trace_merge.proofs.Released.{small_records, steps}
 use Rattle.trace_merge.proofs.Facts.{three, same_or_not, event_within, store_op}
-use Rattle.trace_merge.proofs.Commits.{committed_later}
-use Rattle.trace_merge.proofs.Before.{same_hart, not_after_commit}
+use Rattle.trace_merge.proofs.Commits.{after_store, commit_event, committed_later}
+use Rattle.trace_merge.proofs.Before.{by_rmw, by_store, same_hart, not_after_commit}
 use Rattle.trace_merge.proofs.Among.{rmw_shown, commit_order, conflict, other, IsReader, IsAmong}
 use Rattle.trace_merge.proofs.Content.{small_commits, IsCommitIn, IsLastCommit, IsByteAt, byte_at}
-use Rattle.trace_merge.proofs.Writers.{same_word, IsWrite, a_store, a_rmw, write_kind, one_write, writer, writes_as, IsWriteOf, write_of, commit_in_of, AreRaceFree, among}
+use Rattle.trace_merge.proofs.Writers.{counts, same_word, IsWrite, a_store, a_rmw, write_kind, one_write, writer, writes_as, IsWriteOf, write_of, commit_in_of, AreRaceFree, among}
 
 -- equal accesses write equal bytes
 one_value : (address x : ℕ) (a b : Access) → a ≡ b → (w : WritesByte address x a) (w' : WritesByte address x b) → w.value ≡ w'.value
@@ -81,37 +84,26 @@ module _ (image : ImageView) (t : Topology) (log : List Event) (f : IsAdmissible
     same = m.1;
   })
 
-  -- what a version of a line has in a byte is what the memory has there, where the version is shown
-  record IsShownByte (n : ℕ) (b r : Access) (v x : ℕ) : Type 0 where
-    reads : IsReader image t log f n b r v
+  -- the first v commits of a line stand before n, and each write of the byte before n is one of them
+  record IsSeenByte (n : ℕ) (line : LineId) (address v x : ℕ) : Type 0 where
     race_free : AreRaceFree image t log f n
     small : x < 4
-    in_mask : has_byte r.mask x ≡ true
-
-  -- the commits of a shown version stand before the position
-  commit_before : (n : ℕ) (b r : Access) (v x : ℕ) → IsShownByte n b r v x → (d : ℕ) (a : Access) → IsCommitIn image log (line_of t b.word) v d a → d < n
-  commit_before n b r v x s d a c =
-      let shown = f.coherent.shown_is_committed n b v s.reads.shown in
-      let index = c.index in
-      place_before (commit_in (line_of t b.word)) (small_commits (line_of t b.word)) log d n (omega arith)
-
-  write_among : (n : ℕ) (b r : Access) (v x : ℕ) → IsShownByte n b r v x → (i : ℕ) (a : Access) → IsWrite image t log f i a → i < n → WritesByte b.word.0 x a
-      → IsAmong image t log f n i a (line_of t b.word) v
-  write_among n b r v x s i a write before writes = among image t log f n i a b r v x s.reads write before (same_word a.word b.word writes.same_word) s.small writes.in_mask s.in_mask
+    commits : (d : ℕ) (a : Access) → IsCommitIn image log line v d a → d < n
+    among : (i : ℕ) (a : Access) → IsWrite image t log f i a → i < n → WritesByte address x a → IsAmong image t log f n i a line v
 
   -- the last write and the last commit are of one access
-  same_last : (n : ℕ) (b r : Access) (v x byte byte' : ℕ) → IsShownByte n b r v x → (w : IsLastWrite n b.word.0 x byte) → (c : IsLastCommit image log (line_of t b.word) b.word.0 x v byte')
+  same_last : (n : ℕ) (line : LineId) (address v x byte byte' : ℕ) → IsSeenByte n line address v x → (w : IsLastWrite n address x byte) → (c : IsLastCommit image log line address x v byte')
       → w.access ≡ c.access
-  same_last n b r v x byte byte' s w c = by_order (three o.at w.at)
+  same_last n line address v x byte byte' s w c = by_order (three o.at w.at)
     where
       o : IsWriteOf image t log f c.at c.access
-      o = write_of image t log f (line_of t b.word) v c.at c.access c.is
+      o = write_of image t log f line v c.at c.access c.is
 
-      m : IsAmong image t log f n w.at w.access (line_of t b.word) v
-      m = write_among n b r v x s w.at w.access w.write w.before w.writes
+      m : IsAmong image t log f n w.at w.access line v
+      m = s.among w.at w.access w.write w.before w.writes
 
       before : o.at < n
-      before = let d = commit_before n b r v x s c.at c.access c.is in let le = not_after_commit image t log f o.at c.at c.access o.written in omega arith
+      before = let d = s.commits c.at c.access c.is in let le = not_after_commit image t log f o.at c.at c.access o.written in omega arith
 
       words : c.access.word ≡ w.access.word
       words = same_word c.access.word w.access.word (c.writes.same_word ∙ sym w.writes.same_word)
@@ -119,33 +111,75 @@ module _ (image : ImageView) (t : Topology) (log : List Event) (f : IsAdmissible
       by_order : (o.at < w.at) ⊎ ((o.at ≡ w.at) ⊎ (w.at < o.at)) → w.access ≡ c.access
       by_order (inl earlier) =
           let order = commit_order image t log f o.at w.at c.at m.at c.access w.access x (s.race_free (suc w.at) w.before) o.written m.written earlier words s.small c.writes.in_mask w.writes.in_mask in
-          absurd (c.last m.at w.access (commit_in_of image t log f n w.at w.access (line_of t b.word) v m) w.writes order)
+          absurd (c.last m.at w.access (commit_in_of image t log f n w.at w.access line v m) w.writes order)
       by_order (inr (inl same)) = one_write image t log f w.at w.access c.access w.write (subst (λ i. IsWrite image t log f i c.access) same o.write)
       by_order (inr (inr later)) = absurd (w.last o.at c.access o.write c.writes later before)
 
-  agree : (n : ℕ) (b r : Access) (v x byte byte' : ℕ) → IsShownByte n b r v x → IsLastWrite n b.word.0 x byte ⊎ IsNoWrite n b.word.0 x byte
-      → IsByteAt image log (line_of t b.word) b.word.0 x v byte' → byte ≡ byte'
-  agree n b r v x byte byte' s (inl w) (inl c) = w.same ∙ ap (byte_of_word x) (one_value b.word.0 x w.access c.access (same_last n b r v x byte byte' s w c) w.writes c.writes) ∙ sym c.same
-  agree n b r v x byte byte' s (inl w) (inr none) =
-      let m = write_among n b r v x s w.at w.access w.write w.before w.writes in
-      absurd (none.none m.at w.access (commit_in_of image t log f n w.at w.access (line_of t b.word) v m) w.writes)
-  agree n b r v x byte byte' s (inr none) (inl c) =
-      let o = write_of image t log f (line_of t b.word) v c.at c.access c.is in
-      let d = commit_before n b r v x s c.at c.access c.is in
+  agree : (n : ℕ) (line : LineId) (address v x byte byte' : ℕ) → IsSeenByte n line address v x → IsLastWrite n address x byte ⊎ IsNoWrite n address x byte
+      → IsByteAt image log line address x v byte' → byte ≡ byte'
+  agree n line address v x byte byte' s (inl w) (inl c) = w.same ∙ ap (byte_of_word x) (one_value address x w.access c.access (same_last n line address v x byte byte' s w c) w.writes c.writes) ∙ sym c.same
+  agree n line address v x byte byte' s (inl w) (inr none) =
+      let m = s.among w.at w.access w.write w.before w.writes in
+      absurd (none.none m.at w.access (commit_in_of image t log f n w.at w.access line v m) w.writes)
+  agree n line address v x byte byte' s (inr none) (inl c) =
+      let o = write_of image t log f line v c.at c.access c.is in
+      let d = s.commits c.at c.access c.is in
       let le = not_after_commit image t log f o.at c.at c.access o.written in
       absurd (none.none o.at c.access o.write c.writes (omega arith))
-  agree n b r v x byte byte' s (inr none) (inr none') = none.same ∙ sym none'.same
+  agree n line address v x byte byte' s (inr none) (inr none') = none.same ∙ sym none'.same
 
   -- a byte of memory is that of the version that is shown
   pub line_agrees : (n : ℕ) (b r : Access) (v x byte : ℕ) → IsReader image t log f n b r v → AreRaceFree image t log f n → x < 4 → has_byte r.mask x ≡ true
       → IsByteBefore image (steps log n) (length (steps log n)) b.word.0 x byte → byte ≡ byte_of_word x (word_at image log (line_of t b.word) v b.word.0)
   line_agrees n b r v x byte reads free small has memory =
+      let line = line_of t b.word in
       let shown = f.coherent.shown_is_committed n b v reads.shown in
       let below = event_within log n reads.shown.event.kind reads.shown.event.at in
-      let grows = place_grows (commit_in (line_of t b.word)) (small_commits (line_of t b.word)) log n (length log) (omega arith) in
-      let all = ap length (upto_all (commit_in (line_of t b.word)) log) in
-      agree n b r v x byte _ (record { reads = reads; race_free = free; small = small; in_mask = has }) (from_memory n b.word.0 x byte memory)
-      (byte_at image log (line_of t b.word) b.word.0 x v small (omega arith))
+      let grows = place_grows (commit_in line) (small_commits line) log n (length log) (omega arith) in
+      let all = ap length (upto_all (commit_in line) log) in
+      let s : IsSeenByte n line b.word.0 v x = record {
+        race_free = free;
+        small = small;
+        commits = λ d a c. (let index = c.index in place_before (commit_in line) (small_commits line) log d n (omega arith));
+        among = λ i a write before writes. among image t log f n i a b r v x reads write before (same_word a.word b.word writes.same_word) small writes.in_mask has;
+      } in
+      agree n line b.word.0 v x byte _ s (from_memory n b.word.0 x byte memory) (byte_at image log line b.word.0 x v small (omega arith))
+
+  -- a commit makes one of its line's versions
+  within_all : (c : ℕ) (hart : HartId) (line : LineId) (version : ℕ) → IsCommitEvent log c hart line version → version ≤ length (commits_of log line)
+  within_all c hart line version e =
+      let number = f.coherent.versions_count c hart line version e in
+      let below = event_within log c e.kind e.at in
+      let place = before_place (commit_in line) (small_commits line) log c (length log) e.kind e.kind e.at (counts line hart version e.kind e.is) below in
+      let all = ap length (upto_all (commit_in line) log) in
+      omega arith
+
+  -- where each store is committed, each write of a word is among the commits of its line
+  all_among : (word : WordAddr) (i : ℕ) (a : Access) → ((j : ℕ) (b : Access) → IsEventAt log j (kind.Store b) → IsCommittedBefore log b (length log)) → IsWrite image t log f i a → a.word ≡ word
+      → IsAmong image t log f (length log) i a (line_of t word) (length (commits_of log (line_of t word)))
+  all_among word i a done (a_store at) same =
+      let c = done i a at in
+      let line : c.line ≡ line_of t word = sym (after_store image t log f i a c.at c.line c.version at c.is_at).of_line ∙ ap (line_of t) same in
+      let commit = subst (λ l. IsCommitEvent log c.at a.hart l c.version) line (commit_event image t log f c.at a.hart a.number c.line c.version c.is_at) in
+      record { at = c.at; written = by_store at c.line c.version c.is_at; before = c.before; version = c.version; commit = commit; within = within_all c.at a.hart (line_of t word) c.version commit }
+  all_among word i a done (a_rmw l u at) same =
+      let line : l ≡ line_of t word = f.coherent.rmw_of_its_line i a l u at ∙ ap (line_of t) same in
+      let commit : IsCommitEvent log i a.hart (line_of t word) u = record { kind = kind.Rmw a l u; at = at; is = (refl, line, refl) } in
+      record { at = i; written = by_rmw refl l u at; before = event_within log i (kind.Rmw a l u) at; version = u; commit = commit; within = within_all i a.hart (line_of t word) u commit }
+
+  -- where each store is committed, a byte of memory is that of its line's last version
+  pub all_agree : (word : WordAddr) (x byte : ℕ) → ((j : ℕ) (b : Access) → IsEventAt log j (kind.Store b) → IsCommittedBefore log b (length log)) → AreRaceFree image t log f (length log) → x < 4
+      → IsByteBefore image (steps log (length log)) (length (steps log (length log))) word.0 x byte → byte ≡ byte_of_word x (word_at image log (line_of t word) (length (commits_of log (line_of t word))) word.0)
+  all_agree word x byte done free small memory =
+      let line = line_of t word in
+      let v = length (commits_of log line) in
+      let s : IsSeenByte (length log) line word.0 v x = record {
+        race_free = free;
+        small = small;
+        commits = λ d a c. event_within log d c.kind c.is_at;
+        among = λ i a write before writes. all_among word i a done write (same_word a.word word writes.same_word);
+      } in
+      agree (length log) line word.0 v x byte _ s (from_memory (length log) word.0 x byte memory) (byte_at image log line word.0 x v small (omega arith))
 
   -- a byte of memory is that of the hart's own store, where that is shown
   later_write : (n j : ℕ) (a : Access) (number x : ℕ) (s : IsShownOwn log n a number) → AreRaceFree image t log f n → x < 4 → has_byte a.mask x ≡ true

@@ -67,7 +67,7 @@ module _ (image : ImageView) (t : Topology) (log : List Event) (f : IsAdmissible
   abbrev pub AreRunsTo : ℕ → Type 0
   AreRunsTo n = (m : ℕ) → m ≤ n → IsRunTo m
 
-  race_free : (n : ℕ) → AreRunsTo n → AreRaceFree image t log f n
+  pub race_free : (n : ℕ) → AreRunsTo n → AreRaceFree image t log f n
   race_free n runs m le = let r = runs m le in labelled (steps log m) (record { final = r.state; runs = r.runs })
 
   pub with_record : (n : ℕ) (k : Kind) (r : StepRecord) (s new : FlatState) → IsEventAt log n k → records_in k ≡ r ∷ [] → RunsTo image t (steps log n) s

@@ -18,7 +18,8 @@ use Rattle.dash_model.specs.Admissible.{IsAdmissible}
 use Rattle.trace_merge.proofs.Places.{upto_all}
 use Rattle.trace_merge.proofs.Facts.{some_event, replays}
 use Rattle.trace_merge.proofs.Needs.{can_store, can_fail}
-use Rattle.trace_merge.proofs.Events.{moved, IsRunTo, AreRunsTo, IsMet, with_record, without_record, by_access, load_step, rmw_step, grant_step, free_step}
+use Rattle.trace_merge.proofs.Writers.{AreRaceFree}
+use Rattle.trace_merge.proofs.Events.{moved, race_free, IsRunTo, AreRunsTo, IsMet, with_record, without_record, by_access, load_step, rmw_step, grant_step, free_step}
 
 module _ (image : ImageView) (t : Topology) (log : List Event) (f : IsAdmissible image t log) (labelled : IsProperlyLabelled image t) where
   still : (s : FlatState) (n : ℕ) → ((g : ℕ) → f.harts (suc n) g ≡ s.harts g) → s.harts ≡ f.harts (suc n)
@@ -71,6 +72,9 @@ module _ (image : ImageView) (t : Topology) (log : List Event) (f : IsAdmissible
       by_order : (m ≤ n) ⊎ (m ≡ suc n) → AreRunsTo image t log f labelled n → IsRunTo image t log f labelled m
       by_order (inl shorter) before = before m shorter
       by_order (inr same) before = subst (IsRunTo image t log f labelled) (sym same) (next_run n (omega arith) before)
+
+  pub all_race_free : AreRaceFree image t log f (length log)
+  all_race_free = race_free image t log f labelled (length log) (up_to (length log) (omega arith))
 
   pub run_to_end : IsRunTo image t log f labelled (length log)
   run_to_end = up_to (length log) (omega arith) (length log) (omega arith)

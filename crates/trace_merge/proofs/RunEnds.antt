@@ -1,6 +1,7 @@
 -- The records of a complete run are a complete sequential run: each hart that stands in the machine stands in it.
-use Rattle.std.proofs.Common.{List, Some, ap, arith, false, inl, inr, length, nat_lt, subst, sym, true, ℕ, ◌∙◌, ◌≡◌, ◌&&◌}
+use Rattle.std.proofs.Common.{List, Some, ap, arith, false, inl, inr, length, nat_lt, refl, subst, sym, true, ℕ, ◌∙◌, ◌≡◌, ◌&&◌}
 use Rattle.std.proofs.lemmas.Bool.Decides.{nat_tests}
+use Rattle.dash_base.specs.Words.{byte_of_word}
 use Rattle.dash_base.specs.declared.end.End.TheVariants.{Running}
 use Rattle.dash_base.specs.declared.id.WordAddr.{WordAddr}
 use Rattle.dash_base.specs.declared.need.Need.TheVariants as needed
@@ -10,22 +11,25 @@ use Rattle.dash_event.specs.Records.{records_in, records_of}
 use Rattle.dash_event.specs.declared.access.Access.{Access}
 use Rattle.dash_event.specs.declared.access.Op.TheVariants as op
 use Rattle.dash_event.specs.declared.event.Event.{Event}
+use Rattle.dash_event.specs.declared.event.Kind.TheVariants as kind
 use Rattle.elf_load.specs.Image.{ImageView}
 use Rattle.flat_model.proofs.LawsOffered.{locks_at_end, memory_at_end}
 use Rattle.flat_model.specs.Run.{IsFlatStopped, RunsTo}
 use Rattle.flat_model.specs.State.{FlatState}
 use Rattle.hart_core.specs.HartState.{HartState, can_go_on, is_running}
 use Rattle.hart_core.specs.Meaning.{Needs}
-use Rattle.dash_model.proofs.LawsOffered.{locks_have_last_uses, runs_are_admissible, settled_runs_are_replayed, waiters_ask}
+use Rattle.dash_model.proofs.LawsOffered.{drained_harts_have_committed, locks_have_last_uses, runs_are_admissible, settled_runs_are_replayed, waiters_ask}
 use Rattle.dash_model.specs.Admissible.{IsAdmissible}
-use Rattle.dash_model.specs.Coherent.{ReadsLock, reads_first, reads_last}
-use Rattle.dash_model.specs.Complete.{Ended, IsStopped, Spent, Waits, hart_at}
+use Rattle.dash_model.specs.Coherent.{IsCommittedBefore, ReadsLock, reads_first, reads_last}
+use Rattle.dash_model.specs.Complete.{Ended, IsComplete, IsStopped, Spent, Waits, hart_at}
 use Rattle.dash_model.specs.Config.{Config, is_lock, lock_home}
+use Rattle.dash_model.specs.Log.{IsEventAt}
 use Rattle.dash_model.specs.Machine.{Machine, Reaches}
 use Rattle.dash_model.specs.RunEnds.{LastUse, Unused, Used, value_of}
+use Rattle.trace_merge.proofs.Bytes.{all_agree}
 use Rattle.trace_merge.proofs.Consoles.{console_is}
-use Rattle.trace_merge.proofs.Facts.{event_within}
-use Rattle.trace_merge.proofs.Law.{run_to_end}
+use Rattle.trace_merge.proofs.Facts.{event_within, store_accesses}
+use Rattle.trace_merge.proofs.Law.{all_race_free, run_to_end}
 use Rattle.trace_merge.proofs.Locks.{reads_agree}
 use Rattle.trace_merge.proofs.Places.{upto_all}
 use Rattle.trace_merge.proofs.Released.{steps}
@@ -66,6 +70,12 @@ module _ (w : Config) (log : List Event) (m : Machine) (r : Reaches w log m) (s 
         taken = λ zero. waits.taken (sym value ∙ sym (locks asks.word asks.lock) ∙ zero);
       })
 
+-- ---- stores
+
+-- each store of a complete run is committed
+all_done : (w : Config) (log : List Event) (m : Machine) (f : IsAdmissible w.image w.top log) → Reaches w log m → IsComplete w m → (j : ℕ) (b : Access) → IsEventAt log j (kind.Store b) → IsCommittedBefore log b (length log)
+all_done w log m f r complete j b at = drained_harts_have_committed w log m b.hart.0 j b r (complete.buffers b.hart.0 (store_accesses w.image w.top log f j b at).moves.in_range) at refl
+
 pub complete_runs_are_complete : CompleteRunsAreComplete
 complete_runs_are_complete w log m labelled r complete =
     let f = runs_are_admissible w log r.run in
@@ -79,5 +89,6 @@ complete_runs_are_complete w log m labelled r complete =
       harts = harts;
       locks = locks;
       memory = λ address k small. memory_at_end w.image w.top (records_of log) run.state runs address k small;
+      contents = λ word k small. all_agree w.image w.top log f word k (byte_of_word k (run.state.memory word.0)) (all_done w log m f r complete) (all_race_free w.image w.top log f labelled) small (memory_at_end w.image w.top (steps log (length log)) run.state run.runs word.0 k small);
       console = console_is w.image w.top log run.state runs;
     }

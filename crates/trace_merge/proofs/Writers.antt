@@ -48,7 +48,7 @@ same_under m p q same =
 counted_by : (l line : LineId) (k : Kind) → l ≡ line → (if l.0 == line.0 then k ∷ [] else []) ≡ k ∷ []
 counted_by l line k same = λ i. if eq-eqb l.0 line.0 (ap (λ x. x.0) same) i then k ∷ [] else []
 
-counts : (line : LineId) (hart : HartId) (v : ℕ) (k : Kind) → Commits k hart line v → commit_in line k ≡ k ∷ []
+pub counts : (line : LineId) (hart : HartId) (v : ℕ) (k : Kind) → Commits k hart line v → commit_in line k ≡ k ∷ []
 counts line hart v (kind.Commit g n l u) c = counted_by l line (kind.Commit g n l u) c.1
 counts line hart v (kind.Rmw a l u) c = counted_by l line (kind.Rmw a l u) c.1
 counts line hart v k c = elim c [ ]

@@ -21,7 +21,8 @@ pub fn runs_are_sequential()
 /// Where an image is properly labelled for a topology, the records of every complete run of the machine are a
 /// complete sequential run: in it too each hart has ended, has spent its budget, or waits for a lock word that
 /// is not 0. At its end each hart and each lock word is as in the machine, each byte of memory is what the last
-/// write of it in the log wrote, or the opening one, and the console is that of the log.
+/// write of it in the log wrote, or the opening one, and is that of its line's last version; and the console
+/// is that of the log.
 pub fn complete_runs_are_complete()
     ensures { CompleteRunsAreComplete }
 {}
