@@ -5,6 +5,7 @@ use dash_event::{Access, Event, Kind, Op, Seen};
 use std::alloc::Global;
 use std::test::Fail;
 use trace_merge::{accesses, console};
+use workload_runs::counters_of;
 
 const HART: HartId = HartId(0);
 
@@ -118,5 +119,38 @@ fn a_log_of_three_hundred_events_shows_each_of_them(rt: HostRuntime) -> Result<(
     }
     assert_eq!(rt; numbers, wanted);
     assert_eq!(rt; console(rt.alloc(), &log)?, text);
+    Ok(())
+}
+
+/// A store of a value to the word at an address.
+fn stores(word: u32, value: u32) -> Event {
+    let access = Access {
+        word: WordAddr(word),
+        ..access(1, Op::Store, None, Some(value))
+    };
+    Event {
+        stamp: 1,
+        cluster: ClusterId(0),
+        kind: Kind::Store { access },
+    }
+}
+
+#[test]
+fn a_counter_is_what_the_last_store_of_its_word_wrote(rt: HostRuntime) -> Result<(), Fail> {
+    let log = [
+        stores(0x8000, 5),
+        stores(0x8010, 6),
+        stores(0x8000, 7),
+        stores(0x83f0, 8),
+        stores(0x8400, 9),
+        stores(0x8004, 10),
+        stores(0x7ff0, 11),
+    ];
+    let counters = counters_of(rt.alloc(), &log)?;
+    assert_eq!(rt; counters.len(), 64);
+    assert_eq!(rt; counters[0], 7);
+    assert_eq!(rt; counters[1], 6);
+    assert_eq!(rt; counters[2], 0);
+    assert_eq!(rt; counters[63], 8);
     Ok(())
 }
