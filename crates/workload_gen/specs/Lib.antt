@@ -1,0 +1,4 @@
+pub mod Workload
+pub mod Program
+pub mod Progress
+pub mod Guarded

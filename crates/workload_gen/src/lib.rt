@@ -1,0 +1,4 @@
+//! The generated workload: a program by a number, and what is proved of it.
+#![tactic(auto)]
+
+pub mod laws;
