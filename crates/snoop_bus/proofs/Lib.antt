@@ -10,5 +10,6 @@ pub mod Steps
 pub mod Loops
 pub mod HartReads
 pub mod OnBus
+pub mod Shares
 pub mod Lent
 pub mod LawsOffered

@@ -8,7 +8,7 @@ use Rattle.std.specs.FinSet as set
 use Rattle.std.specs.FinSet.{FinSet}
 use Rattle.std.specs.Coded.{Coded, code_by, coded×, coded_ℕ, coded_list}
 use Rattle.dash_base.specs.declared.line.Line.{Line}
-use Rattle.snoop_bus.specs.Holding.{Holding, holding_code, has_hart, holders_in, owner_in, copy_in, joined_by, owned_by, held_by, rewritten, left_by, disowned, IsProper}
+use Rattle.snoop_bus.specs.Holding.{Holding, holding_code, has_hart, alone, is_owner, holders_in, owner_in, copy_in, joined_by, owned_by, held_by, rewritten, left_by, disowned, IsProper}
 
 -- the indexes of each L1 and of each L2, what the harts have of each line, and the lines in each L1
 pub record BusView : Type 0 where
@@ -41,6 +41,10 @@ copy_of b line = copy_in (holding_at b line)
 -- whether a hart holds a line
 abbrev pub is_holder : BusView → ℕ → ℕ → Bool
 is_holder b hart line = has_hart (holders_at b line) hart
+
+-- a hart is in state M: the owner and the only holder
+abbrev pub owns_alone : BusView → ℕ → ℕ → Bool
+owns_alone b hart line = is_owner (owner_at b line) hart && (holders_at b line == alone hart)
 
 -- whether a hart's L1 has a line
 unfoldable pub in_hart_l1 : BusView → ℕ → ℕ → Bool

@@ -1,8 +1,8 @@
 //! The bus.
 ghost use Rattle.std.specs.Prelude.{◌≡◌, ◌<◌, ◌≢◌, ◌↔◌, IsTrue, IsSome, Some, None, IfOk, MatchOption};
 ghost use Rattle.dash_base.specs.declared.topology.Topology.{Topology};
-ghost use Rattle.snoop_bus.specs.Holding.{alone};
-ghost use Rattle.snoop_bus.specs.View.{BusView, harts, holding_at, holders_at, owner_at, copy_of, is_holder, HasHartRoom, IsHartOther, IsOneMap, empty_bus, after_bus_read, after_bus_own, after_commit, after_install, after_drop, after_clear, after_downgrade, hart_read_of, after_hart_read};
+ghost use Rattle.snoop_bus.specs.Holding.{alone, is_owner};
+ghost use Rattle.snoop_bus.specs.View.{BusView, harts, holding_at, holders_at, owner_at, copy_of, is_holder, owns_alone, HasHartRoom, IsHartOther, IsOneMap, empty_bus, after_bus_read, after_bus_own, after_commit, after_install, after_drop, after_clear, after_downgrade, hart_read_of, after_hart_read};
 
 use crate::hart_caches::HartCaches;
 use crate::harts;
@@ -72,6 +72,37 @@ impl Bus {
         ensures { result ≡ owner_at self.now line.0 }
     {
         harts::owner(&self.harts, line)
+    }
+
+    /// Whether a hart holds a line. It looks at the caches of that hart alone.
+    pub fn holds(&self, hart: u32, line: LineId) -> bool
+        ensures { result ≡ is_holder self.now hart line.0 }
+    {
+        match self.harts.get(hart as usize) {
+            Some(caches) => caches.holds(line),
+            None => false,
+        }
+    }
+
+    /// Whether a hart is the owner of a line. It looks at the caches of that hart alone.
+    pub fn owns(&self, hart: u32, line: LineId) -> bool
+        ensures { result ≡ is_owner (owner_at self.now line.0) hart }
+    {
+        match self.harts.get(hart as usize) {
+            Some(caches) => caches.owns(line),
+            None => false,
+        }
+    }
+
+    /// Whether a hart is the owner of a line and its only holder.
+    pub fn owns_alone(&self, hart: u32, line: LineId) -> bool
+        requires { hart < 32 }
+        ensures { result ≡ owns_alone self.now hart line.0 }
+    {
+        if !self.owns(hart, line) {
+            return false;
+        }
+        self.holders(line) == 1 << hart
     }
 
     /// The cluster's copy of a line, with no change to any L1. `None` where no hart holds the line.

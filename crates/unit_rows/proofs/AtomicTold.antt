@@ -20,7 +20,7 @@ use Rattle.dash_model.specs.HartGuards.{HasReserved}
 use Rattle.unit_rows.specs.declared.choice.Choice.TheVariants.{Step}
 use Rattle.unit_rows.specs.declared.parts.Local.{Local}
 use Rattle.unit_rows.specs.AtomicFits.{AtomicFits, HartFails}
-use Rattle.unit_rows.specs.Held.{owns_alone}
+use Rattle.snoop_bus.specs.View.{owns_alone}
 use Rattle.unit_rows.specs.LineNeeds.{is_sc, is_reserved, fails}
 use Rattle.unit_rows.specs.Shown.{PartsView, hart_at, acks_by, reserved_by, ShowsHart, Shows, AreSized}
 use Rattle.unit_rows.specs.Steps.{HartNeeds}

@@ -16,7 +16,7 @@ use Rattle.unit_rows.specs.declared.choice.Choice.TheVariants.{Commit}
 use Rattle.unit_rows.specs.Shown.{PartsView, hart_at, Shows, AreSized}
 use Rattle.unit_rows.specs.Choices.{IsOf}
 use Rattle.unit_rows.specs.Rows.{Enabled, Cannot}
-use Rattle.unit_rows.specs.Held.{owns_alone}
+use Rattle.snoop_bus.specs.View.{owns_alone}
 use Rattle.unit_rows.proofs.OneHart.{shown_hart}
 use Rattle.unit_rows.proofs.StateM.{owner_alone, in_m-owns_alone}
 

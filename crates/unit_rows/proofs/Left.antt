@@ -1,16 +1,15 @@
 -- What the parts have left to settle is what the part has that they show.
-use Rattle.std.proofs.Common.{◌≡◌, ◌≢◌, ℕ, ◌+◌, ◌*◌, ◌<◌, ◌==◌, ◌&&◌, Bool, true, false, nat_lt, List, [], length, map, if◌then◌else◌, refl, sym, ap, ap₂, ◌∙◌, subst, arith}
+use Rattle.std.proofs.Common.{◌≡◌, ◌≢◌, ℕ, ◌+◌, ◌*◌, ◌<◌, Bool, true, false, List, [], length, if◌then◌else◌, refl, sym, ap, ap₂, ◌∙◌, subst, arith}
 use Rattle.std.proofs.lemmas.Bool.Decides.{nat_tests}
 use Rattle.std.proofs.lemmas.List.{length-map}
 use Rattle.dash_base.specs.Places.{home_among}
-use Rattle.queue_lock.specs.View.{LocksView, is_own, lock_at, waiting_at}
-use Rattle.dash_model.specs.Maps.{total}
+use Rattle.queue_lock.specs.View.{is_own, lock_at}
 use Rattle.dash_model.specs.Config.{Config, lines, lock_home}
 use Rattle.dash_model.specs.Cell.{Copy, Slot}
 use Rattle.dash_model.specs.Part.{Part, Lock}
 use Rattle.dash_model.specs.Weight.{slot_weight, copy_weight, cell_weight, part_weight}
 use Rattle.dash_model.proofs.LawsOffered.{total_same}
-use Rattle.unit_rows.specs.Shown.{PartsView, Shows, AreSized, waiter_by, lock_by}
+use Rattle.unit_rows.specs.Shown.{PartsView, Shows, AreSized, waiter_by}
 use Rattle.unit_rows.specs.Left.{line_left, word_left, weight_left}
 
 module _ (w : Config) (c : ℕ) (v : PartsView) (p : Part) (shows : Shows w c v p) (sized : AreSized w c v) (elsewhere : (i : ℕ) → c ≢ lock_home w i → (p.locks i).queue ≡ []) where

@@ -21,7 +21,7 @@ use Rattle.dash_model.specs.Words.{held_by, in_m}
 use Rattle.dash_model.specs.Wants.{LoadsFrom, NeedsCopy, WritesTo, FrontNeed, HeadIn, StoreNeed}
 use Rattle.unit_rows.specs.declared.parts.Local.{Local}
 use Rattle.unit_rows.specs.Shown.{PartsView, hart_at, reserved_by, Shows, AreSized}
-use Rattle.unit_rows.specs.Held.{owns_alone}
+use Rattle.snoop_bus.specs.View.{owns_alone}
 use Rattle.unit_rows.specs.LineNeeds.{line_by, load_line, is_reserved, write_line, store_line, IsNeeded}
 use Rattle.unit_rows.proofs.Same.{test_same, is_same}
 use Rattle.unit_rows.proofs.Copies.{held-copy_by}

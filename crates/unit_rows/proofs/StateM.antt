@@ -6,13 +6,9 @@ use Rattle.dash_model.specs.Config.{Config}
 use Rattle.dash_model.specs.Part.{Part}
 use Rattle.dash_model.specs.Words.{in_m}
 use Rattle.unit_rows.specs.Shown.{PartsView, hart_at, copy_by, Shows}
-use Rattle.unit_rows.specs.Held.{owns_alone}
+use Rattle.snoop_bus.specs.View.{owns_alone}
 use Rattle.unit_rows.proofs.Same.{test_same, is_same}
 use Rattle.unit_rows.proofs.Copies.{in_m-alone, alone-in_m}
-
--- the owner, and the only holder, by two tests
-pub test_alone : (o : Option ℕ) (n m h k : ℕ) → o ≡ Some k → n ≡ h → m ≡ alone k → (n == m) ≡ (is_owner o k && (h == alone k))
-test_alone o n m h k owner holders shifted = ap₂ (λ x y. x == y) holders shifted ∙ sym (ap (λ y. is_owner y k && (h == alone k)) owner ∙ ap (λ b. b && (h == alone k)) (test_same k))
 
 pub same_bool : (a b : Bool) → (a ≡ true → b ≡ true) → (b ≡ true → a ≡ true) → a ≡ b
 same_bool true b f g = sym (f refl)

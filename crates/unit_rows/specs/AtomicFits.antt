@@ -9,7 +9,7 @@ use Rattle.fence_release.specs.Conditions.{is_free_to_commit}
 use Rattle.dash_model.specs.Config.{Config, line_at}
 use Rattle.unit_rows.specs.declared.parts.Local.{Local}
 use Rattle.unit_rows.specs.Shown.{PartsView}
-use Rattle.unit_rows.specs.Held.{owns_alone}
+use Rattle.snoop_bus.specs.View.{owns_alone}
 use Rattle.unit_rows.specs.LineNeeds.{fails}
 
 -- hart k is in state M on the line of the word, of which this is the copy, and is free to commit

@@ -6,7 +6,7 @@ use Rattle.write_buffer.specs.declared.entry.Entry.{Entry as Stored}
 use Rattle.dash_model.specs.Config.{Config, line_at}
 use Rattle.unit_rows.specs.declared.parts.Local.{Local}
 use Rattle.unit_rows.specs.Shown.{PartsView}
-use Rattle.unit_rows.specs.Held.{owns_alone}
+use Rattle.snoop_bus.specs.View.{owns_alone}
 
 -- hart k is in state M on the line of its oldest store, of which this is the copy
 pub record CommitFits (w : Config) (v : PartsView) (k : ℕ) (oldest : Stored) (copy : Line) : Type 0 where

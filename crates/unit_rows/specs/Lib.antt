@@ -8,7 +8,6 @@ pub mod Opening
 pub mod Takes
 pub mod LockWords
 pub mod Steps
-pub mod Held
 pub mod CommitFits
 pub mod Replies
 pub mod LineNeeds

@@ -40,10 +40,7 @@ pub fn fits_evict(site: &Site, parts: &Parts, hart: u32, line: LineId) -> bool
 fn owns(bus: &Bus, hart: u32, line: LineId) -> bool
     ensures { result ≡ is_owner (owner_at bus.now line.0) hart }
 {
-    match bus.owner(line) {
-        None => false,
-        Some(owner) => owner == hart,
-    }
+    bus.owns(hart, line)
 }
 
 /// Whether a hart owns a line whose acknowledgements are pending.

@@ -1,8 +1,7 @@
 //! What a hart of the cluster is to a line: its holder, or its owner and only holder.
 ghost use Rattle.std.specs.Prelude.{◌≡◌, ◌<◌};
 ghost use Rattle.snoop_bus.specs.Holding.{has_hart};
-ghost use Rattle.snoop_bus.specs.View.{is_holder};
-ghost use Rattle.unit_rows.specs.Held.{owns_alone};
+ghost use Rattle.snoop_bus.specs.View.{is_holder, owns_alone};
 
 use dash_base::LineId;
 use snoop_bus::Bus;
@@ -20,7 +19,7 @@ pub fn holds(bus: &Bus, hart: u32, line: LineId) -> bool
     requires { hart < 4 }
     ensures { result ≡ is_holder bus.now hart line.0 }
 {
-    has_hart(bus.holders(line), hart)
+    bus.holds(hart, line)
 }
 
 /// Whether a hart is in state M on a line: its owner, and its only holder.
@@ -28,5 +27,5 @@ pub fn owns_alone(bus: &Bus, hart: u32, line: LineId) -> bool
     requires { hart < 4 }
     ensures { result ≡ owns_alone bus.now hart line.0 }
 {
-    bus.owner(line) == Some(hart) && bus.holders(line) == 1 << hart
+    bus.owns_alone(hart, line)
 }

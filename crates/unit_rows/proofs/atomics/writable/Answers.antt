@@ -2,7 +2,7 @@ use Rattle.std.proofs.Common.{sym, ap, ◌∙◌}
 use Rattle.dash_base.specs.declared.id.LineId.{LineId}
 use Rattle.fence_release.specs.Conditions.{is_free_to_commit}
 use Rattle.snoop_bus.specs.View.{copy_of}
-use Rattle.unit_rows.specs.Held.{owns_alone}
+use Rattle.snoop_bus.specs.View.{owns_alone}
 use Rattle.unit_rows.specs.Shown.{config, shown}
 use Rattle.unit_rows.proofs.AtomicTold.{fits_if, no_copy, not_owned, not_free}
 use Rattle.unit_rows.proofs.atomics.writable.Goals as goal

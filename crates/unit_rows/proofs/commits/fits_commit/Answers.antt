@@ -2,7 +2,7 @@ use Rattle.std.proofs.Common.{sym, ap, ◌∙◌, subst, IfNone}
 use Rattle.unit_rows.specs.declared.choice.Choice.TheVariants.{Commit}
 use Rattle.unit_rows.specs.Rows.{Cannot}
 use Rattle.unit_rows.specs.Shown.{config, shown}
-use Rattle.unit_rows.specs.Held.{owns_alone}
+use Rattle.snoop_bus.specs.View.{owns_alone}
 use Rattle.unit_rows.proofs.CommitFits.{no_store, not_in_m}
 use Rattle.unit_rows.proofs.commits.fits_commit.Goals as goal
 

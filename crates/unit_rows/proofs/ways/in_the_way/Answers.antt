@@ -1,4 +1,3 @@
-use Rattle.std.proofs.Common.{rules, ◌≡◌, true, false}
 use Rattle.unit_rows.specs.Shown.{config, shown}
 use Rattle.unit_rows.proofs.InWayOfCame.{way_shown, no_way}
 use Rattle.unit_rows.proofs.ways.in_the_way.Goals as goal
