@@ -1,5 +1,5 @@
 -- The output for a file, from what the loader and the run say of it.
-use Rattle.std.proofs.Common.{◌≡◌, ℕ, inr, List, None, refl, subst}
+use Rattle.std.proofs.Common.{◌≡◌, ℕ, Bool, inr, List, None, refl, subst}
 use Rattle.dash_base.specs.Topology.{IsSimple, simple_refusal}
 use Rattle.dash_base.specs.declared.topology.Topology.{Topology}
 use Rattle.elf_load.specs.Image.{ImageView}
@@ -14,16 +14,16 @@ use Rattle.dash_run.specs.CommandLine.{Request}
 use Rattle.dash_run.specs.Ran.{Ran}
 use Rattle.dash_run.specs.Output.{IsAnswer, IsAnswerOn, IsReport}
 
-pub report_on : (bytes : List ℕ) (image : ImageView) (t : Topology) (m : MemoryMap) (output : Output) (ran : Ran)
-    → m.base ≡ t.base → m.size ≡ t.memory → IsLoadable bytes m → image ≡ image_of bytes → IsReport (record { image = image; top = t }) output ran → IsAnswerOn t bytes output ran
-report_on bytes image t m Usage ran base size accepted same report = report
-report_on bytes image t m (Line status text) ran base size accepted same report = absurd report
-report_on bytes image t m (Report status console harts accesses) ran base size accepted same report = record {
+pub report_on : (with_log : Bool) (bytes : List ℕ) (image : ImageView) (t : Topology) (m : MemoryMap) (output : Output) (ran : Ran)
+    → m.base ≡ t.base → m.size ≡ t.memory → IsLoadable bytes m → image ≡ image_of bytes → IsReport with_log (record { image = image; top = t }) output ran → IsAnswerOn with_log t bytes output ran
+report_on with_log bytes image t m Usage ran base size accepted same report = report
+report_on with_log bytes image t m (Line status text) ran base size accepted same report = absurd report
+report_on with_log bytes image t m (Report status sections) ran base size accepted same report = record {
   map = m;
   base = base;
   size = size;
   accepted = accepted;
-  report = let for_image : ImageView → Type 0 = λ i. IsReport (record { image = i; top = t }) (Report status console harts accesses) ran in subst for_image same report;
+  report = let for_image : ImageView → Type 0 = λ i. IsReport with_log (record { image = i; top = t }) (Report status sections) ran in subst for_image same report;
 }
 
 -- a refusal for another cause than memory is the one that applies
@@ -33,7 +33,7 @@ refusal_applies bytes map refusal other refuses = refuses
 
 -- the output on a topology that was asked for is the output
 pub answer_on_asked : (q : Request) (t : Topology) (bytes : List ℕ) (output : Output) (ran : Ran)
-    → IsSimple q.clusters q.harts q.budget t → simple_refusal q.clusters q.harts q.budget ≡ None → IsAnswerOn t bytes output ran → IsAnswer q bytes output ran
+    → IsSimple q.clusters q.harts q.budget t → simple_refusal q.clusters q.harts q.budget ≡ None → IsAnswerOn q.log t bytes output ran → IsAnswer q bytes output ran
 answer_on_asked q t bytes Usage ran simple accepted answer = answer
 answer_on_asked q t bytes (Line status text) ran simple accepted (answer, none) = (
   inr (record {
@@ -49,7 +49,7 @@ answer_on_asked q t bytes (Line status text) ran simple accepted (answer, none) 
   }),
   none,
 )
-answer_on_asked q t bytes (Report status console harts accesses) ran simple accepted answer = record {
+answer_on_asked q t bytes (Report status sections) ran simple accepted answer = record {
   machine = t;
   map = answer.map;
   is_machine = record { simple = simple; accepted = accepted; base = answer.base; size = answer.size };
@@ -58,4 +58,5 @@ answer_on_asked q t bytes (Report status console harts accesses) ran simple acce
   run = (answer.report).run;
   is_status = (answer.report).is_status;
   is_report = (answer.report).is_report;
+  log_fits = (answer.report).log_fits;
 }

@@ -18,8 +18,7 @@ answer_output words files before after q bytes (Line status text) ran asks given
     rw (line.status_is, line.text_is, none) (bad_topology q bytes line.refusal asks given line.refused same)
 answer_output words files before after q bytes (Line status text) ran asks given same (inr line, none) =
     rw (line.status_is, line.text_is, none) (refused q bytes line.refusal asks given line.refused same)
-answer_output words files before after q bytes (Report status console harts accesses) ran asks given same answer =
-    reported q bytes status (console.items ∷ string_bytes harts ∷ string_bytes accesses ∷ []) ran asks given answer same
+answer_output words files before after q bytes (Report status sections) ran asks given same answer = reported q bytes status sections ran asks given answer same
 
 -- what a host says of a file's size, at the size that it answered
 pub told_size : {R : Type 0} (files : Option Files) (name : List ℕ) (answer : ℕ → R) (result : R) (size : ℕ)

@@ -26,5 +26,5 @@ one_report fixed q bytes status status' texts texts' ran ran' a b logs =
     let status_there : IsStatus w b.run.finished.end (status_of a.cause) = subst (λ (m : Machine). IsStatus w m (status_of a.cause)) ends status_at in
     let same : status ≡ status' = a.is_status ∙ one_status w b.run.finished.end (status_of a.cause) (status_of b.cause) status_there b.run.finished.status ∙ sym b.is_status in (
       same,
-      a.is_report ∙ (λ i. report_of (config i) (ends i) (same i) (logs i)) ∙ sym b.is_report,
+      a.is_report ∙ (λ i. report_of q.log (config i) (ends i) (same i) (logs i)) ∙ sym b.is_report,
     )

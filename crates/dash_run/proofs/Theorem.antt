@@ -124,37 +124,37 @@ status_in q bytes status texts ran report =
     subst (λ (s : ℕ). IsStatus (config_of bytes report.machine) report.run.finished.end s) (sym report.is_status) report.run.finished.status
 
 printed_of : (words : List (List ℕ)) (files : Option Files) (status : ℕ) (to : Stream) (texts : List (List ℕ)) (ran : Ran) (printed : Change (Option Printed))
-    → HasReport words files status to texts ran → Follows (Appends to (joined texts)) printed.old printed.new → OfMachine words files (HasPrinted ran.log status printed)
+    → HasReport words files status to texts ran → Follows (Appends to (joined texts)) printed.old printed.new → OfMachine words files (HasPrinted words ran.log status printed)
 printed_of words files status to texts ran printed r follows =
     let report = r.report in
     let w = config_of r.bytes report.machine in
     let end = report.run.finished.end in
     let on_out : Follows (Appends stream.Out (joined texts)) printed.old printed.new = subst (λ (s : Stream). Follows (Appends s (joined texts)) printed.old printed.new) r.on_out follows in
-    let of_report : Follows (Appends stream.Out (joined (report_of w end status ran.log))) printed.old printed.new =
+    let of_report : Follows (Appends stream.Out (joined (report_of r.request.log w end status ran.log))) printed.old printed.new =
     subst (λ (ts : List (List ℕ)). Follows (Appends stream.Out (joined ts)) printed.old printed.new) report.is_report on_out in
     record {
       machine = w;
       asked = asked_for words files status to texts ran r;
-      holds = record { end = end; reaches = report.run.finished.reaches; gained = whole_report status (status_in _ _ _ _ _ report) of_report };
+      holds = record { end = end; reaches = report.run.finished.reaches; request = r.request; asks = r.asked; gained = whole_report status (status_in _ _ _ _ _ report) of_report };
     }
 
 part_of : (words : List (List ℕ)) (files : Option Files) (status : ℕ) (to : Stream) (texts : List (List ℕ)) (ran : Ran) (printed : Change (Option Printed))
-    → HasReport words files status to texts ran → Follows (AppendsPart to (joined texts)) printed.old printed.new → OfMachine words files (HasPrinted ran.log 5 printed)
+    → HasReport words files status to texts ran → Follows (AppendsPart to (joined texts)) printed.old printed.new → OfMachine words files (HasPrinted words ran.log 5 printed)
 part_of words files status to texts ran printed r follows =
     let report = r.report in
     let w = config_of r.bytes report.machine in
     let end = report.run.finished.end in
     let on_out : Follows (AppendsPart stream.Out (joined texts)) printed.old printed.new = subst (λ (s : Stream). Follows (AppendsPart s (joined texts)) printed.old printed.new) r.on_out follows in
-    let of_report : Follows (AppendsPart stream.Out (joined (report_of w end status ran.log))) printed.old printed.new =
+    let of_report : Follows (AppendsPart stream.Out (joined (report_of r.request.log w end status ran.log))) printed.old printed.new =
     subst (λ (ts : List (List ℕ)). Follows (AppendsPart stream.Out (joined ts)) printed.old printed.new) report.is_report on_out in
     record {
       machine = w;
       asked = asked_for words files status to texts ran r;
-      holds = record { end = end; reaches = report.run.finished.reaches; gained = part_of_report status (status_in _ _ _ _ _ report) of_report };
+      holds = record { end = end; reaches = report.run.finished.reaches; request = r.request; asks = r.asked; gained = part_of_report status (status_in _ _ _ _ _ report) of_report };
     }
 
 pub report_printed : (words : List (List ℕ)) (files : Option Files) (loads prints : Change ℕ) (printed : Change (Option Printed)) (calls : Change (Option (List Call))) (status : ℕ) (ran : Ran)
-    → Ends words files loads prints printed calls status ran → MadeRun status ran.log → OfMachine words files (HasPrinted ran.log status printed)
+    → Ends words files loads prints printed calls status ran → MadeRun status ran.log → OfMachine words files (HasPrinted words ran.log status printed)
 report_printed words files loads prints printed calls _ _ (printed_all s to texts ran is_output steady follows calls_made) made =
     printed_of words files s to texts ran printed (output_made _ _ _ _ _ _ _ _ is_output made) follows
 report_printed words files loads prints printed calls _ _ (print_failed s to texts ran is_output rose follows calls_made) made =

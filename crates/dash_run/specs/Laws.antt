@@ -1,5 +1,5 @@
 -- Laws of reports. Each is the contract of a function of `laws`.
-use Rattle.std.specs.Prelude.{◌≡◌, ℕ, ◌<◌, Some, List, [], map}
+use Rattle.std.specs.Prelude.{◌≡◌, ℕ, ◌<◌, true, Some, List, [], map}
 use Rattle.dash_base.specs.Outside.{Files}
 use Rattle.dash_base.specs.declared.end.End.TheVariants.{Running}
 use Rattle.dash_event.specs.declared.event.Event.{Event}
@@ -8,6 +8,8 @@ use Rattle.flat_model.specs.FlatEnd as flat
 use Rattle.dash_model.specs.Config.{Config, all_harts}
 use Rattle.dash_model.specs.Machine.{Machine, Reaches}
 use Rattle.dash_model.specs.Complete.{IsComplete, IsCompleteRun, IsWaiting}
+use Rattle.trace_text.specs.LogText.{log_text}
+use Rattle.trace_text.specs.Reading.{IsTextOf}
 use Rattle.dash_run.specs.CommandLine.{Request}
 use Rattle.dash_run.specs.Outcome.{IsReported}
 use Rattle.dash_run.specs.Ran.{Ran}
@@ -41,3 +43,9 @@ OneReport =
 -- where the host tells its files, the words ask for one machine
 abbrev pub OneMachine : Type 0
 OneMachine = (words : List (List ℕ)) (file_at : Files) (w w' : Config) → IsAskedFor words (Some file_at) w → IsAskedFor words (Some file_at) w' → w ≡ w'
+
+-- what is read of the log section of a report is the log of its run
+abbrev pub PrintedLogsAreReadBack : Type 0
+PrintedLogsAreReadBack =
+    (q : Request) (bytes : List ℕ) (status : ℕ) (texts : List (List ℕ)) (ran : Ran)
+    → IsReported q bytes status texts ran → q.log ≡ true → (read : List Event) → IsTextOf (log_text ran.log) read → read ≡ ran.log

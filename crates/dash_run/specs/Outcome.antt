@@ -1,5 +1,5 @@
 -- The output of a call of the program, and how it may end.
-use Rattle.std.specs.Prelude.{◌≡◌, ℕ, Bool, ◌<◌, ◌≤◌, ◌⊎◌, List, [], ◌∷◌, ◌++◌, length, map, fold, codes, decimal, Option, Some, None, IfSome, IsSomeAnd}
+use Rattle.std.specs.Prelude.{◌≡◌, ℕ, Bool, true, ◌<◌, ◌≤◌, ◌⊎◌, List, [], ◌∷◌, ◌++◌, length, map, fold, codes, decimal, Option, Some, None, IfSome, IsSomeAnd}
 use Rattle.dash_base.specs.Outside.{Files, Printed, Appends, AppendsPart, Follows, Rose, last_count, Call, load_of, print_on, failed_print_on, with_calls}
 use Rattle.dash_base.specs.Names.{key_name}
 use Rattle.dash_base.specs.Topology.{IsSimple, simple_refusal}
@@ -16,6 +16,8 @@ use Rattle.elf_load.specs.declared.refusal.LoadRefusal.TheVariants.{Short, NotEl
 use Rattle.round_run.specs.Finished.{IsFinished, status_of}
 use Rattle.round_run.specs.declared.finished.Cause.{Cause}
 use Rattle.dash_model.specs.Config.{Config}
+use Rattle.std.specs.List.{AllByRecursion}
+use Rattle.trace_text.specs.Fits.{FitsEvent}
 use Rattle.dash_run.specs.CommandLine.{Request, Asks, IsUsageError}
 use Rattle.dash_run.specs.Ran.{Ran, no_run, itself}
 use Rattle.dash_run.specs.Report.{report_of}
@@ -97,7 +99,7 @@ pub record IsRunOf (w : Config) (ran : Ran) (cause : Cause) : Type 0 where
   pub waits : List Bool
   pub finished : IsFinished itself w ran.log ran.units ran.rounds waits cause
 
--- the topology and an image with these bytes are accepted, and a run of it ended with this exit status and report
+-- the topology and an image with these bytes are accepted, and a run of it ended with this exit status and report; the numbers of a log that is printed are within the bounds of their types
 pub record IsReported (q : Request) (bytes : List ℕ) (status : ℕ) (texts : List (List ℕ)) (ran : Ran) : Type 0 where
   pub machine : Topology
   pub map : MemoryMap
@@ -106,7 +108,8 @@ pub record IsReported (q : Request) (bytes : List ℕ) (status : ℕ) (texts : L
   pub cause : Cause
   pub run : IsRunOf (config_of bytes machine) ran cause
   pub is_status : status ≡ status_of cause
-  pub is_report : texts ≡ report_of (config_of bytes machine) run.finished.end status ran.log
+  pub is_report : texts ≡ report_of q.log (config_of bytes machine) run.finished.end status ran.log
+  pub log_fits : q.log ≡ true → AllByRecursion FitsEvent ran.log
 
 -- the image's file is within the limit, and has these bytes where files are told
 pub record IsGiven (files : Option Files) (name bytes : List ℕ) : Type 0 where

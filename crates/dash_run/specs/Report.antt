@@ -1,5 +1,5 @@
 -- The text of a report.
-use Rattle.std.specs.Prelude.{ℕ, zero, suc, ◌+◌, Bool, nat_lt, if◌then◌else◌, List, [], ◌∷◌, ◌++◌, length, slice_range, codes, decimal, flat_map}
+use Rattle.std.specs.Prelude.{ℕ, zero, suc, ◌+◌, Bool, true, false, nat_lt, if◌then◌else◌, List, [], ◌∷◌, ◌++◌, length, slice_range, codes, decimal, flat_map}
 use Rattle.dash_base.specs.declared.end.End.{End}
 use Rattle.dash_base.specs.declared.end.End.TheVariants.{Running, Exited, Trapped}
 use Rattle.dash_base.specs.declared.topology.Topology.{Topology}
@@ -12,6 +12,7 @@ use Rattle.dash_model.specs.Complete.{hart_at}
 use Rattle.dash_event.specs.Records.{accesses_of}
 use Rattle.trace_text.specs.Spelling.{newline, hex, cause_text}
 use Rattle.trace_text.specs.AccessText.{access_text}
+use Rattle.trace_text.specs.LogText.{log_text}
 
 -- how a hart that may have instructions left rests
 abbrev pub end_text : Bool → End → List ℕ
@@ -70,7 +71,12 @@ access_section accesses =
 abbrev pub hart_of : Config → Machine → ℕ → HartState
 hart_of w m h = (hart_at w h m).core
 
--- the report of a run that ended in this state with this exit status and log: its three sections
-abbrev pub report_of : Config → Machine → ℕ → List Event → List (List ℕ)
-report_of w m status log =
-    console_section m.console ∷ harts_section w.top (hart_of w m) (all_harts w) status ∷ access_section (accesses_of log) ∷ []
+-- the section with the text of the log, where it is asked for
+abbrev pub log_sections : Bool → List Event → List (List ℕ)
+log_sections true log = log_text log ∷ []
+log_sections false log = []
+
+-- the report of a run that ended in this state with this exit status and log: its three sections, and a fourth with the log where that is asked for
+abbrev pub report_of : Bool → Config → Machine → ℕ → List Event → List (List ℕ)
+report_of with_log w m status log =
+    console_section m.console ∷ harts_section w.top (hart_of w m) (all_harts w) status ∷ access_section (accesses_of log) ∷ log_sections with_log log

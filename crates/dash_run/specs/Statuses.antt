@@ -121,9 +121,9 @@ pub record StopsAtPrint (words : List (List ℕ)) (calls : Change (Option (List 
   pub texts : List (List ℕ)
   pub prints_part : PrintsPart words to texts calls
 
--- with the statuses of a run the calls were one load and three prints
-abbrev pub RunsMakeFourCalls : Type 0
-RunsMakeFourCalls = (c : TopCall) → IsRunStatus c.status → MakesRunCalls c.words c.files c.calls c.status c.ran
+-- with the statuses of a run the calls were one load and a print of each section
+abbrev pub RunsLoadAndPrint : Type 0
+RunsLoadAndPrint = (c : TopCall) → IsRunStatus c.status → MakesRunCalls c.words c.files c.calls c.status c.ran
 
 -- with status 2 the only call was the print of the usage line
 abbrev pub UsageMakesOneCall : Type 0

@@ -1,5 +1,5 @@
 -- What the clauses of `dash` say of a call that made a run.
-use Rattle.std.specs.Prelude.{◌≡◌, ℕ, ◌⊎◌, List, [], Option}
+use Rattle.std.specs.Prelude.{◌≡◌, ℕ, Bool, ◌⊎◌, List, [], Option}
 use Rattle.dash_base.specs.Outside.{Files, Printed, Appends, AppendsPart, Follows}
 use Rattle.dash_base.specs.declared.host.Stream.TheVariants as stream
 use Rattle.dash_event.specs.declared.event.Event.{Event}
@@ -62,18 +62,20 @@ pub record HasStatus (log : List Event) (status : ℕ) (w : Config) : Type 0 whe
   pub complete : IsComplete w end
   pub is_status : IsStatus w end status
 
--- what was printed with a status: on standard output the report of the run, or where a print failed, which is status 5, a part of it; and nothing on standard error
-pub data Gained (w : Config) (end : Machine) (log : List Event) (printed : Change (Option Printed)) : ℕ → Type 0 where
+-- what was printed with a status: on standard output the report of the run, with the log where that is asked for, or where a print failed, which is status 5, a part of it; and nothing on standard error
+pub data Gained (with_log : Bool) (w : Config) (end : Machine) (log : List Event) (printed : Change (Option Printed)) : ℕ → Type 0 where
   whole_report : (status : ℕ) → IsStatus w end status
-      → Follows (Appends stream.Out (joined (report_of w end status log))) printed.old printed.new → Gained w end log printed status
+      → Follows (Appends stream.Out (joined (report_of with_log w end status log))) printed.old printed.new → Gained with_log w end log printed status
   part_of_report : (status : ℕ) → IsStatus w end status
-      → Follows (AppendsPart stream.Out (joined (report_of w end status log))) printed.old printed.new → Gained w end log printed 5
+      → Follows (AppendsPart stream.Out (joined (report_of with_log w end status log))) printed.old printed.new → Gained with_log w end log printed 5
 
--- the report of a log was printed
-pub record HasPrinted (log : List Event) (status : ℕ) (printed : Change (Option Printed)) (w : Config) : Type 0 where
+-- the report of a log was printed, as the words ask for it
+pub record HasPrinted (words : List (List ℕ)) (log : List Event) (status : ℕ) (printed : Change (Option Printed)) (w : Config) : Type 0 where
   pub end : Machine
   pub reaches : Reaches w log end
-  pub gained : Gained w end log printed status
+  pub request : Request
+  pub asks : Asks words request
+  pub gained : Gained request.log w end log printed status
 
 -- the cause of each exit status
 pub data HasCause (words : List (List ℕ)) (files : Option Files) (loads prints : Change ℕ) (log : List Event) : ℕ → Type 0 where

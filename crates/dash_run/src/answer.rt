@@ -1,22 +1,27 @@
 //! From a topology and the bytes of an image file to what is to be printed.
-ghost use Rattle.std.specs.Prelude.{◌≡◌, IfOk, map, vec_len};
+ghost use Rattle.std.specs.Prelude.{◌≡◌, IfOk, map, vec_len, true, option_map, unwrap_or, ◌∷◌, []};
 ghost use Rattle.round_run.specs.Finished.{IsFinished, status_of};
+ghost use Rattle.std.specs.List.{AllByRecursion};
+ghost use Rattle.trace_text.specs.Fits.{FitsEvent};
+ghost use Rattle.dash_run.specs.Report.{log_sections};
 ghost use Rattle.dash_run.specs.Output.{IsAnswer, IsAnswerOn, IsReport};
 
 use crate::access_text::access_section;
 use crate::command_line::Command;
 use crate::lines;
-use crate::output::{Output, Prepared};
+use crate::output::{Output, Prepared, Sections};
 use crate::report::{console_section, harts_section};
 use crate::run::Run;
 use arbiter::Arbiter;
 use dash_base::{OutOfMemory, Topology};
+use dash_event::Event;
 use elf_load::{Image, LoadRefusal, MemoryMap, load};
 use round_run::{Cause, Finished, Gate, Machine, RunEnd, run_rounds};
 use std::alloc::Global;
 use std::sync::Wait;
 use std::thread::Threads;
 use trace_merge::console;
+use trace_text::write_log;
 
 /// What is printed for an image file with these bytes: the refusal of the topology, or of the image, or
 /// the report of the run.
@@ -29,11 +34,11 @@ pub fn answer<R: Threads + Wait + Sync, G: Gate>(
     arbiters: Vec<Box<dyn Arbiter + Send>>,
 ) -> Result<Prepared, OutOfMemory>
     requires { vec_len arbiters ≡ 16 }
-    ensures { IfOk result (λ a. IsAnswer (record { name = command.now.name.now; clusters = command.now.clusters; harts = command.now.harts; budget = command.now.budget }) bytes.items a.output
+    ensures { IfOk result (λ a. IsAnswer (record { name = command.now.name.now; clusters = command.now.clusters; harts = command.now.harts; budget = command.now.budget; log = command.now.log }) bytes.items a.output
         (record { log = a.run.log.items; units = map (λ u. record { core = u.core; turns = u.turns; steps = u.steps; ahead = u.ahead }) a.run.units.items; rounds = a.run.rounds })) }
 {
     match Topology::simple(command.clusters, command.harts, command.budget) {
-        Ok(topology) => Ok(answer_on(rt, alloc, &topology, bytes, gate, arbiters)?),
+        Ok(topology) => Ok(answer_on(rt, alloc, &topology, command.log, bytes, gate, arbiters)?),
         Err(refusal) => Ok(Prepared {
             output: Output::Line {
                 status: 4,
@@ -49,18 +54,19 @@ fn answer_on<R: Threads + Wait + Sync, G: Gate>(
     rt: &R,
     alloc: Global,
     topology: &Topology,
+    with_log: bool,
     bytes: Vec<u8>,
     gate: &G,
     arbiters: Vec<Box<dyn Arbiter + Send>>,
 ) -> Result<Prepared, OutOfMemory>
     requires { vec_len arbiters ≡ 16 }
-    ensures { IfOk result (λ a. IsAnswerOn topology.now bytes.items a.output
+    ensures { IfOk result (λ a. IsAnswerOn with_log topology.now bytes.items a.output
         (record { log = a.run.log.items; units = map (λ u. record { core = u.core; turns = u.turns; steps = u.steps; ahead = u.ahead }) a.run.units.items; rounds = a.run.rounds })) }
 {
     match load(alloc, bytes.as_slice(), map_of(topology)) {
         Ok(image) => {
             drop(bytes);
-            Ok(report(rt, alloc, &image, topology, gate, arbiters)?)
+            Ok(report(rt, alloc, &image, topology, with_log, gate, arbiters)?)
         }
         Err(LoadRefusal::OutOfMemory) => Err(OutOfMemory),
         Err(refusal) => Ok(Prepared {
@@ -90,16 +96,17 @@ fn report<R: Threads + Wait + Sync, G: Gate>(
     alloc: Global,
     image: &Image,
     topology: &Topology,
+    with_log: bool,
     gate: &G,
     arbiters: Vec<Box<dyn Arbiter + Send>>,
 ) -> Result<Prepared, OutOfMemory>
     requires { vec_len arbiters ≡ 16 }
-    ensures { IfOk result (λ a. IsReport (record { image = image.now; top = topology.now }) a.output
+    ensures { IfOk result (λ a. IsReport with_log (record { image = image.now; top = topology.now }) a.output
         (record { log = a.run.log.items; units = map (λ u. record { core = u.core; turns = u.turns; steps = u.steps; ahead = u.ahead }) a.run.units.items; rounds = a.run.rounds })) }
 {
     let machine = Machine::new(alloc, topology, image, arbiters)?;
     match run_rounds(rt, alloc, machine, gate) {
-        Ok(finished) => Ok(report_of(alloc, image, topology, finished)?),
+        Ok(finished) => Ok(report_of(alloc, image, topology, with_log, finished)?),
         Err(RunEnd::OutOfMemory) => Err(OutOfMemory),
     }
 }
@@ -109,19 +116,20 @@ fn report_of(
     alloc: Global,
     image: &Image,
     topology: &Topology,
+    with_log: bool,
     finished: Finished,
 ) -> Result<Prepared, OutOfMemory>
     requires { IsFinished (λ u. record { core = u.core; turns = u.turns; steps = u.steps; ahead = u.ahead }) (record { image = image.now; top = topology.now }) finished.log.items finished.units.items finished.rounds finished.waits.items finished.cause }
-    ensures { IfOk result (λ a. IsReport (record { image = image.now; top = topology.now }) a.output
+    ensures { IfOk result (λ a. IsReport with_log (record { image = image.now; top = topology.now }) a.output
         (record { log = a.run.log.items; units = map (λ u. record { core = u.core; turns = u.turns; steps = u.steps; ahead = u.ahead }) a.run.units.items; rounds = a.run.rounds })) }
 {
     let status = status_of(finished.cause);
     let console = console(alloc, finished.log.as_slice())?;
-    let output = Output::Report {
-        status,
+    let sections = Sections {
         console: console_section(alloc, console.as_slice())?,
         harts: harts_section(alloc, topology, finished.units.as_slice(), status)?,
         accesses: access_section(alloc, finished.log.as_slice())?,
+        log: log_section(alloc, with_log, finished.log.as_slice())?,
     };
     let Finished {
         log,
@@ -130,9 +138,20 @@ fn report_of(
         ..
     } = finished;
     Ok(Prepared {
-        output,
+        output: Output::Report { status, sections },
         run: Run { log, units, rounds },
     })
+}
+
+/// The text of a log, where it is asked for.
+fn log_section(alloc: Global, with_log: bool, log: &[Event]) -> Result<Option<Vec<u8>>, OutOfMemory>
+    ensures text { IfOk result (λ text. unwrap_or (option_map (λ t. t.items ∷ []) text) [] ≡ log_sections with_log log.now) }
+    ensures fits { IfOk result (λ _. with_log ≡ true → AllByRecursion FitsEvent log.now) }
+{
+    if !with_log {
+        return Ok(None);
+    }
+    Ok(Some(write_log(alloc, log)?))
 }
 
 /// The exit status of a run that ended for a cause.

@@ -1,9 +1,10 @@
 //! Laws of reports, and of the calls of `dash`: what follows from the clause `outcome`. The functions do
 //! nothing: their contracts are the laws.
-ghost use Rattle.dash_run.specs.Laws.{PrintedAccessesAreTheRecords, ConsoleIsOfTheLog, HartsThatAreLeftWait, CompleteRunsAreNotEmpty, OneReport, OneMachine};
-ghost use Rattle.dash_run.specs.Statuses.{UsageHasCause, RefusalHasCause, BadTopologyHasCause, FaultHasCause, OutOfMemoryIsQuiet, RunHasCause, NoFormIsUsage, FailedLoadIsFault, FailedPrintIsFault, LargeFileIsFault, BadTopologyIsTold, RefusalIsTold, AcceptedImageRuns, FailedReportLeavesRun, RunsMakeFourCalls, UsageMakesOneCall, NothingAfterFailedPrint};
+ghost use Rattle.dash_run.specs.Laws.{PrintedAccessesAreTheRecords, ConsoleIsOfTheLog, HartsThatAreLeftWait, CompleteRunsAreNotEmpty, OneReport, OneMachine, PrintedLogsAreReadBack};
+ghost use Rattle.dash_run.specs.Statuses.{UsageHasCause, RefusalHasCause, BadTopologyHasCause, FaultHasCause, OutOfMemoryIsQuiet, RunHasCause, NoFormIsUsage, FailedLoadIsFault, FailedPrintIsFault, LargeFileIsFault, BadTopologyIsTold, RefusalIsTold, AcceptedImageRuns, FailedReportLeavesRun, RunsLoadAndPrint, UsageMakesOneCall, NothingAfterFailedPrint};
 
 use dash_model::laws::events_fix_effects;
+use trace_text::laws::reading_gives_back;
 
 /// The accesses of a log, which the report prints, are those of its records, in their order.
 pub fn printed_accesses_are_the_records()
@@ -38,6 +39,13 @@ pub fn one_report()
 pub fn one_machine()
     ensures { OneMachine }
 {}
+
+/// What `read_log` gives of the log section of a report is the log of its run.
+pub fn printed_logs_are_read_back()
+    ensures { PrintedLogsAreReadBack }
+{
+    reading_gives_back();
+}
 
 /// Status 2 comes only where the words have no form.
 pub fn usage_has_cause()
@@ -113,9 +121,10 @@ pub fn failed_report_leaves_run()
     ensures { FailedReportLeavesRun }
 {}
 
-/// With the statuses of a run the calls of the host were one load and three prints.
-pub fn runs_make_four_calls()
-    ensures { RunsMakeFourCalls }
+/// With the statuses of a run the calls of the host were one load and a print of each section: three, or
+/// four where the words ask for the log.
+pub fn runs_load_and_print()
+    ensures { RunsLoadAndPrint }
 {}
 
 /// With status 2 the only call of the host was the print of the usage line.

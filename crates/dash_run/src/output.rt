@@ -1,6 +1,7 @@
 //! What a call has ready to print.
 use crate::run::Run;
 use crate::top::Ended;
+use std::marker::Model;
 
 /// What is printed when nothing more fails: an exit status, and text on one stream.
 #[derive(Drop)]
@@ -8,17 +9,26 @@ pub enum Output {
     /// Status 2, and the usage line on standard error.
     Usage,
     /// A line on standard error.
-    Line {
-        status: u8,
-        text: String,
-    },
-    /// The three sections of a report on standard output.
-    Report {
-        status: u8,
-        console: Vec<u8>,
-        harts: String,
-        accesses: String,
-    },
+    Line { status: u8, text: String },
+    /// The sections of a report on standard output.
+    Report { status: u8, sections: Sections },
+}
+
+/// The sections of a report, each for a print, the log where it is asked for. Contracts see their texts.
+#[derive(Drop)]
+pub struct Sections {
+    pub console: Vec<u8>,
+    pub harts: String,
+    pub accesses: String,
+    pub log: Option<Vec<u8>>,
+}
+
+impl Model for Sections {
+    ghost use Rattle.std.specs.Prelude.{ℕ, List, ◌∷◌, [], string_bytes, option_map, unwrap_or};
+
+    ghost Value = { List (List ℕ) };
+
+    ghost view = { λ s. s.console.items ∷ string_bytes s.harts ∷ string_bytes s.accesses ∷ unwrap_or (option_map (λ t. t.items ∷ []) s.log) [] };
 }
 
 impl Output {

@@ -1,5 +1,5 @@
 //! The top call: from words and a host to a printed report and an exit status.
-ghost use Rattle.std.specs.Prelude.{◌≡◌, ℕ, ◌≤◌, ◌⊎◌, ◌++◌, ◌∷◌, List, [], length, IfOk, IsTrue, OnErr, OnOk, map, string_bytes, vec_len};
+ghost use Rattle.std.specs.Prelude.{◌≡◌, ℕ, ◌≤◌, ◌⊎◌, ◌++◌, ◌∷◌, List, [], Bool, length, IfOk, IsTrue, OnErr, OnOk, map, string_bytes, vec_len};
 ghost use Rattle.dash_base.specs.declared.host.Stream.TheVariants as stream;
 ghost use Rattle.dash_base.specs.Outside.{Appends, AppendsPart, Follows, Rose, print_on, with_calls};
 ghost use Rattle.dash_run.specs.CommandLine.{Request, Asks, IsAsked};
@@ -10,7 +10,7 @@ ghost use Rattle.dash_run.specs.Theorem.{MadeRun, OfMachine, IsWholeRun, HasPrin
 use crate::answer::answer;
 use crate::command_line::read_words;
 use crate::lines;
-use crate::output::{Output, Prepared};
+use crate::output::{Output, Prepared, Sections};
 use crate::run::Run;
 use arbiter::Arbiter;
 use cluster_unit::Unit;
@@ -69,7 +69,7 @@ pub fn dash<R: Threads + Wait + Sync, H: Host, G: Gate>(
 
     // The report of a run, and nothing else, was printed; or a part of it, where a print failed.
     ensures printed { MadeRun result.status result.log.items → OfMachine (map string_bytes words.now) (H.files host.old)
-        (HasPrinted result.log.items result.status (record { old = H.printed host.old; new = H.printed host.new })) }
+        (HasPrinted (map string_bytes words.now) result.log.items result.status (record { old = H.printed host.old; new = H.printed host.new })) }
 
     // A run is coherent, and keeps the release rule.
     ensures order { MadeRun result.status result.log.items → OfMachine (map string_bytes words.now) (H.files host.old) (IsOrdered result.log.items) }
@@ -182,18 +182,48 @@ fn show<H: Host>(host: &mut H, output: &Output) -> Result<(), Failed>
     match output {
         Output::Usage => host.print(Stream::Err, lines::usage().as_bytes()),
         Output::Line { text, .. } => host.print(Stream::Err, text.as_bytes()),
-        Output::Report {
-            console,
-            harts,
-            accesses,
-            ..
-        } => print_three(
-            host,
-            console.as_slice(),
-            harts.as_bytes(),
-            accesses.as_bytes(),
-        ),
+        Output::Report { sections, .. } => print_sections(host, sections),
     }
+}
+
+/// Prints the sections of a report on standard output, and none after one that fails.
+fn print_sections<H: Host>(host: &mut H, sections: &Sections) -> Result<(), Failed>
+    ensures ok { OnOk result (Follows (Appends stream.Out (joined sections.now)) (H.printed host.old) (H.printed host.new)) }
+    ensures err { OnErr result (Follows (AppendsPart stream.Out (joined sections.now)) (H.printed host.old) (H.printed host.new)) }
+    ensures failed { OnErr result (Rose (H.print_faults host.old) (H.print_faults host.new)) }
+    ensures steady { OnOk result (H.print_faults host.new ≡ H.print_faults host.old) }
+    ensures load_faults { H.load_faults host.new ≡ H.load_faults host.old }
+    ensures printed_all { OnOk result (H.calls host.new ≡ with_calls (H.calls host.old) (map (print_on stream.Out) sections.now)) }
+    ensures broke_off { OnErr result (HasTried stream.Out sections.now (H.calls host.old) (H.calls host.new)) }
+{
+    let console = sections.console.as_slice();
+    let harts = sections.harts.as_bytes();
+    let accesses = sections.accesses.as_bytes();
+    match &sections.log {
+        Some(log) => print_four(host, console, harts, accesses, log.as_slice()),
+        None => print_three(host, console, harts, accesses),
+    }
+}
+
+/// Prints four texts on standard output, and none after one that fails.
+fn print_four<H: Host>(
+    host: &mut H,
+    first: &[u8],
+    second: &[u8],
+    third: &[u8],
+    fourth: &[u8],
+) -> Result<(), Failed>
+    ensures ok { OnOk result (Follows (Appends stream.Out (first.now ++ second.now ++ third.now ++ fourth.now)) (H.printed host.old) (H.printed host.new)) }
+    ensures err { OnErr result (Follows (AppendsPart stream.Out (first.now ++ second.now ++ third.now ++ fourth.now)) (H.printed host.old) (H.printed host.new)) }
+    ensures failed { OnErr result (Rose (H.print_faults host.old) (H.print_faults host.new)) }
+    ensures steady { OnOk result (H.print_faults host.new ≡ H.print_faults host.old) }
+    ensures load_faults { H.load_faults host.new ≡ H.load_faults host.old }
+    ensures printed_all { OnOk result (H.calls host.new ≡ with_calls (H.calls host.old) (map (print_on stream.Out) (first.now ∷ second.now ∷ third.now ∷ fourth.now ∷ []))) }
+    ensures broke_off { OnErr result (HasTried stream.Out (first.now ∷ second.now ∷ third.now ∷ fourth.now ∷ []) (H.calls host.old) (H.calls host.new)) }
+{
+    print_three(host, first, second, third)?;
+    host.print(Stream::Out, fourth)?;
+    Ok(())
 }
 
 /// Prints three texts on standard output, and none after one that fails.

@@ -3,13 +3,15 @@
 
 use arbiter::{Arbiter, Rotate};
 use dash_base::{MemoryHost, Stream};
-use dash_run::dash;
+use dash_event::Event;
+use dash_run::{Ended, dash};
 use round_run::OpenGate;
 use std::alloc::{AllocError, Global};
 use std::collections::BTreeMap;
 use std::sync::Wait;
 use std::test::Fail;
 use std::thread::Threads;
+use trace_text::{TextRefusal, read_log};
 
 /// The headers of a file with one segment at 0x10000, which stands at 84 in the file.
 static HEADERS: [u8; 84] = [
@@ -145,7 +147,7 @@ pub fn file(alloc: Global, words: &[u32]) -> Result<Vec<u8>, AllocError> {
 fn host(alloc: Global, bytes: Vec<u8>, failing: &[u32]) -> Result<MemoryHost, Fail> {
     let mut files = BTreeMap::new(alloc);
     files.insert(String::from_str(alloc, "a.elf")?, bytes)?;
-    Ok(MemoryHost::new(alloc, files, 2000, Vec::from_slice(alloc, failing)?)?)
+    Ok(MemoryHost::new(alloc, files, 10_000, Vec::from_slice(alloc, failing)?)?)
 }
 
 fn words(alloc: Global, texts: &[&str]) -> Result<Vec<String>, AllocError> {
@@ -156,14 +158,24 @@ fn words(alloc: Global, texts: &[&str]) -> Result<Vec<String>, AllocError> {
     Ok(words)
 }
 
-/// How a call with an open gate ended, each cluster choosing in rotation: its exit status, and the number
-/// of events.
+/// The exit status of a call, and the number of events.
 fn call<R: Threads + Wait + Sync>(
     rt: &R,
     alloc: Global,
     words: &[String],
     host: &mut MemoryHost,
 ) -> Result<(u8, usize), AllocError> {
+    let ended = ended(rt, alloc, words, host)?;
+    Ok((ended.status, ended.log.len()))
+}
+
+/// How a call with an open gate ended, each cluster choosing in rotation.
+fn ended<R: Threads + Wait + Sync>(
+    rt: &R,
+    alloc: Global,
+    words: &[String],
+    host: &mut MemoryHost,
+) -> Result<Ended, AllocError> {
     let mut arbiters: Vec<Box<dyn Arbiter + Send>> = Vec::new(alloc);
     for _cluster in 0..16 {
         arbiters.push(Box::new(alloc, Rotate::new())?)?;
@@ -171,8 +183,7 @@ fn call<R: Threads + Wait + Sync>(
     if arbiters.len() != 16 {
         return Err(AllocError);
     }
-    let ended = dash(rt, alloc, words, host, &OpenGate, arbiters);
-    Ok((ended.status, ended.log.len()))
+    Ok(dash(rt, alloc, words, host, &OpenGate, arbiters))
 }
 
 #[test]
@@ -319,6 +330,43 @@ fn a_fault_ends_with_status_5_and_what_was_printed_before(rt: HostRuntime) -> Re
         assert_eq!(rt; host.shown(Stream::Err), err.as_bytes());
         assert_eq!(rt; host.failed_loads(), loads);
         assert_eq!(rt; host.failed_prints(), prints);
+    }
+    Ok(())
+}
+
+fn read(alloc: Global, text: &[u8]) -> Result<Vec<Event>, TextRefusal> {
+    if text.len() >= 4_294_967_295 {
+        return Err(TextRefusal::OutOfMemory);
+    }
+    read_log(alloc, text)
+}
+
+#[test]
+fn a_log_is_printed_last_and_reads_back(rt: HostRuntime) -> Result<(), Fail> {
+    let alloc = rt.alloc();
+    let two_sections = format!(in alloc; "{OK_CONSOLE}{OK_HARTS}")?;
+    let three_sections = format!(in alloc; "{OK_CONSOLE}{OK_HARTS}{NO_ACCESSES}")?;
+    let cases: [(&[u32], u8, &str, bool); 5] = [
+        (&[], 0, three_sections.as_str(), true),
+        (&[1], 5, "", false),
+        (&[2], 5, OK_CONSOLE, false),
+        (&[3], 5, two_sections.as_str(), false),
+        (&[4], 5, three_sections.as_str(), false),
+    ];
+    let run = words(alloc, &["run", "a.elf", "1", "1", "100", "--log"])?;
+    for (failing, status, sections, has_log) in cases {
+        let mut host = host(alloc, file(alloc, &OK)?, failing)?;
+        let ended = ended(&rt, alloc, run.as_slice(), &mut host)?;
+        assert_eq!(rt; ended.status, status);
+        assert!(rt; ended.log.len() >= 8);
+        let out = host.shown(Stream::Out);
+        assert!(rt; out.starts_with(sections.as_bytes()));
+        let rest = out.get(sections.len()..).unwrap_or_default();
+        if has_log {
+            assert_eq!(rt; read(alloc, rest)?.as_slice(), ended.log.as_slice());
+        } else {
+            assert!(rt; rest.is_empty());
+        }
     }
     Ok(())
 }

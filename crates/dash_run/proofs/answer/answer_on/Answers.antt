@@ -4,7 +4,7 @@ use Rattle.dash_run.proofs.answer.answer_on.Goals as goal
 
 pub returns-in-Ok : goal.returns-in-Ok
 returns-in-Ok g c =
-    report_on c.args.bytes.items c.in-Ok.image c.args.topology.now c.map_of.result c.in_ok-report-in-Ok.field-0.output _ c.map_of.ensures.base c.map_of.ensures.size (search rules) (search rules) (search rules)
+    report_on c.args.with_log c.args.bytes.items c.in-Ok.image c.args.topology.now c.map_of.result c.in_ok-report-in-Ok.field-0.output _ c.map_of.ensures.base c.map_of.ensures.size (search rules) (search rules) (search rules)
 
 pub returns : goal.returns
 returns g c = (

@@ -1,5 +1,5 @@
 use Rattle.std.proofs.Common.{string_bytes}
-use Rattle.dash_run.proofs.Words.{two_mapped, five_mapped}
+use Rattle.dash_run.proofs.Words.{two_mapped, five_mapped, six_mapped}
 use Rattle.dash_run.proofs.command_line.read_words.Goals as goal
 
 pub returns-in-len2-clause-none : goal.returns-in-len2-clause-none
@@ -9,3 +9,7 @@ returns-in-len2-clause-none c =
 pub returns-in-len5-clause-none : goal.returns-in-len5-clause-none
 returns-in-len5-clause-none c =
     rw (five_mapped string_bytes c.args.words.now c.command-item-then-words-lt6.result c.image-item-then-words-lt6.result c.clusters-item.result c.harts-item.result c.budget-item.result c.as_str-in-len5.result.now c.as_str-in-len5-2.result.now c.as_str-in-len5-3.result.now c.as_str-in-len5-4.result.now c.as_str-in-len5-5.result.now c.in-len5.len_at_least c.in-len5.len_below c.command-item-then-words-lt6.is c.image-item-then-words-lt6.is c.clusters-item.is c.harts-item.is c.budget-item.is c.as_str-in-len5.ensures.value c.as_str-in-len5-2.ensures.value c.as_str-in-len5-3.ensures.value c.as_str-in-len5-4.ensures.value c.as_str-in-len5-5.ensures.value) c.read_with.ensures.none
+
+pub returns-in-len6-clause-none : goal.returns-in-len6-clause-none
+returns-in-len6-clause-none c =
+    rw (six_mapped string_bytes c.args.words.now c.command-item-then-words-lt7.result c.image-item-then-words-lt7.result c.clusters-item-then-words-lt7.result c.harts-item-then-words-lt7.result c.budget-item-then-words-lt7.result c.flag-item.result c.as_str-in-len6.result.now c.as_str-in-len6-2.result.now c.as_str-in-len6-3.result.now c.as_str-in-len6-4.result.now c.as_str-in-len6-5.result.now c.as_str-in-len6-6.result.now c.in-len6.len_at_least c.in-len6.len_below c.command-item-then-words-lt7.is c.image-item-then-words-lt7.is c.clusters-item-then-words-lt7.is c.harts-item-then-words-lt7.is c.budget-item-then-words-lt7.is c.flag-item.is c.as_str-in-len6.ensures.value c.as_str-in-len6-2.ensures.value c.as_str-in-len6-3.ensures.value c.as_str-in-len6-4.ensures.value c.as_str-in-len6-5.ensures.value c.as_str-in-len6-6.ensures.value) c.read_logged.ensures.none

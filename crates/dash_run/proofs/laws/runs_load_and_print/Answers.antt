@@ -1,5 +1,5 @@
 use Rattle.dash_run.proofs.HostCalls.{run_calls}
-use Rattle.dash_run.proofs.laws.runs_make_four_calls.Goals as goal
+use Rattle.dash_run.proofs.laws.runs_load_and_print.Goals as goal
 
 pub returns : goal.returns
 returns c = run_calls
