@@ -4,3 +4,10 @@ pub mod Computing
 pub mod Accessing
 pub mod Stages
 pub mod Moving
+pub mod Changed
+pub mod Sections
+pub mod Sums
+pub mod Held
+pub mod Growing
+pub mod Invariant
+pub mod Runs

@@ -2,3 +2,5 @@ pub mod Workload
 pub mod Program
 pub mod Progress
 pub mod Guarded
+pub mod LastStores
+pub mod RunLaws

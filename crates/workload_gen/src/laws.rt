@@ -2,9 +2,45 @@
 ghost use Rattle.hart_core.specs.Meaning.{IsFound};
 ghost use Rattle.hart_core.specs.declared.found.Found.TheVariants.{NoWord};
 ghost use Rattle.std.specs.Prelude.{ℕ};
+ghost use Rattle.workload_gen.specs.Guarded.{CountersAreGuarded};
+ghost use Rattle.workload_gen.specs.RunLaws.{CountersComeToTotals, HartsAreDone, HartsOnlyExit, LastStoresWriteTotals, NothingIsPut};
 ghost use Rattle.workload_gen.specs.Program.{image_of};
 
 /// Behind the last instruction of the program there is no other one.
 pub fn nothing_follows()
     ensures { (seed : ℕ) → IsFound (image_of seed) 4236 NoWord }
+{}
+
+/// In every sequential run of the workload, complete or not, a hart loads or stores a counter only while it
+/// holds the counter's lock word: the last access of that one is an Ask of this hart. It frees a lock word only
+/// while it holds it, and makes no other access.
+pub fn counters_are_guarded()
+    ensures { CountersAreGuarded }
+{}
+
+/// In every sequential run a hart can go on, or has exited with code 0, having retired 7,507 instructions. So
+/// none traps, and none spends its budget.
+pub fn harts_only_exit()
+    ensures { HartsOnlyExit }
+{}
+
+/// In no sequential run a byte is put on the console.
+pub fn nothing_is_put()
+    ensures { NothingIsPut }
+{}
+
+/// After a complete sequential run every hart has exited with code 0, having retired 7,507 instructions: none
+/// waits for ever.
+pub fn harts_are_done()
+    ensures { HartsAreDone }
+{}
+
+/// After a complete sequential run, whatever the order of its steps, each counter has its total.
+pub fn counters_come_to_totals()
+    ensures { CountersComeToTotals }
+{}
+
+/// And that is what the last store of its word in the run wrote, or 0 where there is none.
+pub fn last_stores_write_totals()
+    ensures { LastStoresWriteTotals }
 {}

@@ -1,6 +1,5 @@
 use Rattle.std.proofs.Common.{refl}
 use Rattle.elf_load.specs.Image.{fetched}
-use Rattle.workload_gen.proofs.Moving.{moved}
 use Rattle.workload_gen.proofs.laws.nothing_follows.Goals as goal
 
 pub returns : goal.returns
