@@ -6,7 +6,7 @@ use Rattle.std.proofs.lemmas.Nat.{div-add-mod', mod_below}
 use Rattle.dash_base.specs.declared.id.LineId.{LineId}
 use Rattle.dash_event.specs.declared.event.Kind.{Kind}
 use Rattle.dash_event.specs.declared.event.Kind.TheVariants as kind
-use Rattle.remote_cache.specs.View.{count, slot_at}
+use Rattle.remote_cache.specs.View.{count, slot_at, IsUsed}
 use Rattle.remote_cache.specs.Steps.{arrived_in, is_refused}
 use Rattle.queue_lock.specs.View.{is_own}
 use Rattle.queue_lock.proofs.LawsOffered.{own_below}
@@ -109,6 +109,11 @@ none_after (choice.Again n) own = omega arith
 none_after (choice.Install n) own = omega arith
 none_after (choice.Grant i) own = omega arith
 
+-- a slot that has something is one of those that are used
+in_used : (v : PartsView) (n u : ℕ) → IsUsed v.slots.slots u → (slot_at v.slots n ≡ None → ⊥) → (n < u) ⊎ (u ≤ n) → n < u
+in_used v n u used some (inl low) = low
+in_used v n u used some (inr high) = absurd (some (used.rest n high))
+
 -- how many numbers the choices of a kind have
 abbrev pub limit : Config → PartsView → ℕ → ℕ
 limit w v place = if nat_le place 4 then w.top.harts else (if nat_le place 7 then count v.slots else w.top.locks)
@@ -147,6 +152,28 @@ module _ (w : Config) (c : ℕ) (v : PartsView) (sized : AreSized w c v) where
   pub all_of_kind : (r n : ℕ) (xs : List Choice) → n ≡ limit w v r → HasListed w c v (IsBelow r n) xs → HasListed w c v (IsBelow (r + 1) 0) xs
   all_of_kind r n xs is had =
       next_kind w c v r (limit w v r) xs (subst (λ m. HasListed w c v (IsBelow r m) xs) is had) (λ y p shows own able at. below_limit r y p shows own able at)
+
+  ask_low : (y : Choice) (p : Part) → Enabled w c y p → kind_place y ≡ 5 → number_in y < 2 * w.top.harts
+  ask_low (choice.Ask n) p able at = of_ask w c n p able.event able.done able.is_of able.guard
+  ask_low y p able at = absurd (omega (arith, at))
+
+  again_low : (u : ℕ) (y : Choice) (p : Part) → IsUsed v.slots.slots u → Shows w c v p → Enabled w c y p → kind_place y ≡ 6 → number_in y < u
+  again_low u (choice.Again n) p used shows able at = in_used v n u used (λ none. not_refused w c n v (ap is_refused none) p shows able) (cases_lt n u)
+  again_low u y p used shows able at = absurd (omega (arith, at))
+
+  install_low : (u : ℕ) (y : Choice) (p : Part) → IsUsed v.slots.slots u → Shows w c v p → Enabled w c y p → kind_place y ≡ 7 → number_in y < u
+  install_low u (choice.Install n) p used shows able at = in_used v n u used (λ none. not_come w c n v sized (ap arrived_in none) p shows able) (cases_lt n u)
+  install_low u y p used shows able at = absurd (omega (arith, at))
+
+  -- no slot but the first ones asks, and none that is empty asks again or has a line to install
+  pub all_asks : (xs : List Choice) → HasListed w c v (IsBelow 5 (2 * w.top.harts)) xs → HasListed w c v (IsBelow 6 0) xs
+  all_asks xs had = next_kind w c v 5 (2 * w.top.harts) xs had (λ y p shows own able at. ask_low y p able at)
+
+  pub all_again : (u : ℕ) (xs : List Choice) → IsUsed v.slots.slots u → HasListed w c v (IsBelow 6 u) xs → HasListed w c v (IsBelow 7 0) xs
+  all_again u xs used had = next_kind w c v 6 u xs had (λ y p shows own able at. again_low u y p used shows able at)
+
+  pub all_installs : (u : ℕ) (xs : List Choice) → IsUsed v.slots.slots u → HasListed w c v (IsBelow 7 u) xs → HasListed w c v (IsBelow 8 0) xs
+  all_installs u xs used had = next_kind w c v 7 u xs had (λ y p shows own able at. install_low u y p used shows able at)
 
   pub all_listed : (xs : List Choice) → HasListed w c v (IsBelow 8 w.top.locks) xs → ListsOwn w c v xs
   all_listed xs had =

@@ -14,7 +14,7 @@ use Rattle.dash_event.specs.declared.event.Kind.TheVariants as kind
 use Rattle.remote_cache.specs.declared.slot.Phase.{Phase as Waits}
 use Rattle.remote_cache.specs.declared.slot.Phase.TheVariants as waits
 use Rattle.remote_cache.specs.declared.slot.Slot.{Slot as Request}
-use Rattle.remote_cache.specs.View.{SlotsView, count, slot_at, slot_of, is_of}
+use Rattle.remote_cache.specs.View.{SlotsView, count, slot_at, slot_of, is_of, IsUsed}
 use Rattle.remote_cache.proofs.LawsOffered.{lines_have_one_slot}
 use Rattle.snoop_bus.specs.View.{BusView, harts as bus_harts, HasHartRoom, IsHartOther, IsOneMap}
 use Rattle.dash_model.specs.Config.{Config}
@@ -122,6 +122,18 @@ came_at b v k n xs had one i low (inr more) = let same : n ≡ i = omega (arith,
 pub one_came : (b : BusView) (v : SlotsView) (k n : ℕ) (found : Option LineId) (xs ys : List ℕ) → found ≡ came_line k (slot_at v n) → HasCame b v k n xs → Keeps xs ys → HasVictimOf b k found ys → HasCame b v k (n + 1) ys
 one_came b v k n found xs ys is had keeps one i low =
     came_at b v k n ys (kept_came b v k n xs ys keeps had) (subst (λ o. HasVictimOf b k o ys) is one) i low (cases_lt i n)
+
+-- nothing came to a slot that is empty
+came_nowhere : (b : BusView) (k : ℕ) (xs : List ℕ) (o : Option Request) → o ≡ None → HasVictimOf b k (came_line k o) xs
+came_nowhere b k xs None e = tt
+came_nowhere b k xs (Some s) e = absurd (cc)
+
+came_past : (b : BusView) (v : SlotsView) (k u : ℕ) (xs : List ℕ) → IsUsed v.slots u → HasCame b v k u xs → (i : ℕ) → (i < u) ⊎ (u ≤ i) → HasVictimOf b k (came_line k (slot_at v i)) xs
+came_past b v k u xs used had i (inl low) = had i low
+came_past b v k u xs used had i (inr high) = came_nowhere b k xs (slot_at v i) (used.rest i high)
+
+pub all_came : (b : BusView) (v : SlotsView) (k u n : ℕ) (xs : List ℕ) → IsUsed v.slots u → HasCame b v k u xs → HasCame b v k n xs
+all_came b v k u n xs used had i low = came_past b v k u xs used had i (cases_lt i u)
 
 -- ---- what an enabled Evict tells
 

@@ -14,7 +14,8 @@ use unit_rows::{Choice, Parts, Site};
 pub const MOST_CHOICES: usize = 2_048;
 
 /// Lists the choices that are enabled, other than those to take a message, in their order. It takes no
-/// memory.
+/// memory. A slot for prefetches asks for nothing here, and an empty one neither asks again nor has a
+/// line to install.
 pub fn list_own(site: &Site, parts: &Parts, choices: &mut Vec<Choice>)
     requires sized { AreSized (config site.now) site.now.cluster.0 (shown parts.now) }
     requires stores { StoresAreOfMemory (config site.now) (shown parts.now) }
@@ -24,14 +25,14 @@ pub fn list_own(site: &Site, parts: &Parts, choices: &mut Vec<Choice>)
     ensures short { vec_len choices.new ≤ 2000 }
 {
     let harts = site.topology.harts;
-    let slots = parts.slots.count();
+    let used = parts.slots.used();
     choices.clear();
     list_by_number(site, parts, ByNumber::Step, harts, choices);
     list_by_number(site, parts, ByNumber::Commit, harts, choices);
     list_bus(site, parts, choices);
     list_evictions(site, parts, choices);
-    list_by_number(site, parts, ByNumber::Ask, slots, choices);
-    list_by_number(site, parts, ByNumber::Again, slots, choices);
-    list_by_number(site, parts, ByNumber::Install, slots, choices);
+    list_by_number(site, parts, ByNumber::Ask, 2 * harts, choices);
+    list_by_number(site, parts, ByNumber::Again, used, choices);
+    list_by_number(site, parts, ByNumber::Install, used, choices);
     list_grants(site, parts, choices);
 }

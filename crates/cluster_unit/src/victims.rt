@@ -45,7 +45,7 @@ fn add_came(slots: &Slots, bus: &Bus, hart: u32, lines: &mut ArrayVec<u32, MOST_
     ensures short { array_vec_len lines.new ≤ array_vec_len lines.old + count slots.now }
     ensures came { HasCame bus.now slots.now hart (count slots.now) lines.new.items }
 {
-    for id in 0..slots.count() {
+    for id in 0..slots.used() {
         let found = came_line(slots, hart, id);
         add_victim(bus, hart, found, lines);
     }

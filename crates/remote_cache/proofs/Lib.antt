@@ -1,3 +1,4 @@
+mod Using
 pub mod OnePerLine
 pub mod Changed
 pub mod Lawful

@@ -1,5 +1,5 @@
 -- The slots of a cluster as contracts see them, by their numbers.
-use Rattle.std.specs.Prelude.{◌≡◌, ℕ, ◌==◌, Bool, true, false, not, nat_lt, List, length, Option, Some, None, replicate, slice_index_or, slice_set}
+use Rattle.std.specs.Prelude.{◌≡◌, ℕ, ◌+◌, ◌≤◌, ◌==◌, Bool, true, false, not, nat_lt, List, length, Option, Some, None, is_some, replicate, slice_index_or, slice_set}
 use Rattle.std.specs.List.{position}
 use Rattle.dash_base.specs.Places as places
 use Rattle.remote_cache.specs.declared.slot.Slot.{Slot}
@@ -45,3 +45,8 @@ slot_of v line = position (is_of line) v.slots
 -- at most one slot has a line
 pub record IsOnePerLine (slots : List (Option Slot)) : Type 0 where
   pub one : (line i j : ℕ) → is_of line (slice_index_or slots i None) ≡ true → is_of line (slice_index_or slots j None) ≡ true → i ≡ j
+
+-- all slots from number n on are empty, and the one before is not
+pub record IsUsed (slots : List (Option Slot)) (n : ℕ) : Type 0 where
+  pub rest : (m : ℕ) → n ≤ m → slice_index_or slots m None ≡ None
+  pub last : (m : ℕ) → n ≡ m + 1 → is_some (slice_index_or slots m None) ≡ true

@@ -2,7 +2,7 @@
 ghost use Rattle.std.specs.Prelude.{◌≡◌, ◌<◌, ◌≤◌, ◌+◌, true, IfSome, None, Some};
 ghost use Rattle.dash_base.specs.Bounds.{IsBetween};
 ghost use Rattle.dash_base.specs.Places as places;
-ghost use Rattle.remote_cache.specs.View.{SlotsView, count, first_prefetch, is_prefetch, slot_at, slot_of, with_slot, empty_slots, IsOnePerLine};
+ghost use Rattle.remote_cache.specs.View.{SlotsView, count, first_prefetch, is_prefetch, slot_at, slot_of, with_slot, empty_slots, IsOnePerLine, IsUsed};
 ghost use Rattle.remote_cache.specs.Steps.{issued, is_refused, asked_again, arrived_in, reply_met, after_reply, after_inval};
 
 use crate::slot::{Phase, Slot};
@@ -67,6 +67,14 @@ impl Slots {
         ensures { result ≡ slot_at self.now id }
     {
         self.slots[id as usize]
+    }
+
+    /// The number after that of the last slot that is not empty: 0 where all are.
+    pub fn used(&self) -> u32
+        ensures used { IsUsed self.now.slots result }
+        ensures within { result ≤ count self.now }
+    {
+        search::used(&self.slots) as u32
     }
 
     /// What all slots keep: at most one of them has a line. The call does nothing.

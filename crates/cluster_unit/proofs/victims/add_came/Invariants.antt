@@ -6,4 +6,4 @@ use Rattle.cluster_unit.proofs.victims.add_came.Given as goal
 
 abbrev pub invariant-loop-id : goal.invariant-loop-id
 invariant-loop-id l =
-    IsRising l.lines.items × (array_vec_len l.lines ≤ array_vec_len l.initial.lines + l.id) × HasCame l.bus l.slots l.hart l.id l.lines.items × (l.id ≤ count l.slots)
+    IsRising l.lines.items × (array_vec_len l.lines ≤ array_vec_len l.initial.lines + l.id) × HasCame l.bus l.slots l.hart l.id l.lines.items × (l.id ≤ l.id-end) × (l.id-end ≤ count l.slots)
