@@ -1,5 +1,6 @@
 -- The lemmas that the crates above use. Nothing else of these proofs is imported across crates.
 pub use Rattle.flat_model.proofs.DrivenRuns.{driven_run, one_eager_step}
+pub use Rattle.flat_model.proofs.Exclusion.{locks_exclude}
 pub use Rattle.flat_model.proofs.InRuns.{numbers_rise, one_hart}
 pub use Rattle.flat_model.proofs.Offers.{is_offered, number_is}
 pub use Rattle.flat_model.proofs.Ordered.{across, goes_forward}

@@ -32,3 +32,4 @@ pub mod Rising
 pub mod InTurn
 pub mod MergedLogs
 pub mod RunEnds
+pub mod LawsOffered

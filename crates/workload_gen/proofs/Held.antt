@@ -101,8 +101,8 @@ module _ (rs : List StepRecord) (r : StepRecord) where
 
   guarded_on : (j : ℕ) (a : Access) → j ≤ length rs → IsGuarded rs j a → IsGuarded (rs ++ r ∷ []) j a
   guarded_on j a within (Counter k low word is labels held) = Counter k low word is labels (held_on j a.hart k within held)
-  guarded_on j a within (Asks k low word is labels) = Asks k low word is labels
-  guarded_on j a within (Unlocks k low word is labels held) = Unlocks k low word is labels (held_on j a.hart k within held)
+  guarded_on j a within (Asks k low word is labels read written) = Asks k low word is labels read written
+  guarded_on j a within (Unlocks k low word is labels written held) = Unlocks k low word is labels written (held_on j a.hart k within held)
 
   -- all accesses, with the one of the record
   pub all_guarded : ((j : ℕ) (a : Access) → IsAccessAt rs j a → IsGuarded rs j a) → ((a : Access) → r ≡ step.Access a → IsGuarded rs (length rs) a) → (j : ℕ) (a : Access) → IsAccessAt (rs ++ r ∷ []) j a → IsGuarded (rs ++ r ∷ []) j a

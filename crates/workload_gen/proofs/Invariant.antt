@@ -214,7 +214,7 @@ module _ (seed : ℕ) (seed_small : seed < 2 ^ 32) (t : Topology) (s : IsMachine
         (kept seed i.p m i.values h in_range y m (λ k. refl) (sym is_done) tt)
         (record {
           inside = λ g k below inside. asked_inside g k below (was i.p h in_range y l l i.locks k g inside);
-          all = all_guarded rs r i.guards.all (λ b e. access_of (IsGuarded rs (length rs)) ask_access (Asks own (counter_low seed h (suc n)) refl refl refl) b e);
+          all = all_guarded rs r i.guards.all (λ b e. access_of (IsGuarded rs (length rs)) ask_access (Asks own (counter_low seed h (suc n)) refl refl refl refl refl) b e);
         })
         (λ k low. last_kept (counter_word k) rs r refl ∙ i.last k low)
         i.console
@@ -245,7 +245,7 @@ module _ (seed : ℕ) (seed_small : seed < 2 ^ 32) (t : Topology) (s : IsMachine
         (kept seed i.p m i.values h in_range y m (λ k. refl) (sym is_done) tt)
         (record {
           inside = λ g k below inside. freed_inside g k below (was i.p h in_range y l l i.locks k g inside);
-          all = all_guarded rs r i.guards.all (λ b e. access_of (IsGuarded rs (length rs)) unlock_access (Unlocks c low refl refl refl (i.guards.inside h c in_range its_inside)) b e);
+          all = all_guarded rs r i.guards.all (λ b e. access_of (IsGuarded rs (length rs)) unlock_access (Unlocks c low refl refl refl refl (i.guards.inside h c in_range its_inside)) b e);
         })
         (λ k below. last_kept (counter_word k) rs r refl ∙ i.last k below)
         i.console

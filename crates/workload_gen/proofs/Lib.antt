@@ -11,3 +11,5 @@ pub mod Held
 pub mod Growing
 pub mod Invariant
 pub mod Runs
+pub mod Labelled
+pub mod LawsOffered

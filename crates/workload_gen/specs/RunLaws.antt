@@ -3,6 +3,7 @@ use Rattle.std.specs.Prelude.{◌≡◌, ◌⊎◌, ◌<◌, ◌^◌, ℕ, true,
 use Rattle.dash_base.specs.declared.end.End.TheVariants.{Exited}
 use Rattle.dash_base.specs.declared.topology.Topology.{Topology}
 use Rattle.dash_event.specs.declared.step_record.StepRecord.{StepRecord}
+use Rattle.flat_model.specs.Race.{IsProperlyLabelled}
 use Rattle.flat_model.specs.Run.{IsCompleteSequentialRun, RunsTo}
 use Rattle.flat_model.specs.State.{FlatState}
 use Rattle.hart_core.specs.HartState.{HartState, can_go_on}
@@ -38,3 +39,7 @@ CountersComeToTotals = (seed : ℕ) (t : Topology) (rs : List StepRecord) (s : F
 abbrev pub LastStoresWriteTotals : Type 0
 LastStoresWriteTotals = (seed : ℕ) (t : Topology) (rs : List StepRecord) (s : FlatState) → seed < 2 ^ 32 → IsMachine t → IsCompleteSequentialRun (image_of seed) t rs s
     → (k : ℕ) → k < counters → last_of (stores_among (counter_word k) rs) ≡ total seed k
+
+-- no sequential run has a data race
+abbrev pub WorkloadsAreProperlyLabelled : Type 0
+WorkloadsAreProperlyLabelled = (seed : ℕ) (t : Topology) → seed < 2 ^ 32 → IsMachine t → IsProperlyLabelled (image_of seed) t

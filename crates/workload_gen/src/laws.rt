@@ -3,7 +3,7 @@ ghost use Rattle.hart_core.specs.Meaning.{IsFound};
 ghost use Rattle.hart_core.specs.declared.found.Found.TheVariants.{NoWord};
 ghost use Rattle.std.specs.Prelude.{ℕ};
 ghost use Rattle.workload_gen.specs.Guarded.{CountersAreGuarded};
-ghost use Rattle.workload_gen.specs.RunLaws.{CountersComeToTotals, HartsAreDone, HartsOnlyExit, LastStoresWriteTotals, NothingIsPut};
+ghost use Rattle.workload_gen.specs.RunLaws.{CountersComeToTotals, HartsAreDone, HartsOnlyExit, LastStoresWriteTotals, NothingIsPut, WorkloadsAreProperlyLabelled};
 ghost use Rattle.workload_gen.specs.Program.{image_of};
 
 /// Behind the last instruction of the program there is no other one.
@@ -43,4 +43,11 @@ pub fn counters_come_to_totals()
 /// And that is what the last store of its word in the run wrote, or 0 where there is none.
 pub fn last_stores_write_totals()
     ensures { LastStoresWriteTotals }
+{}
+
+/// For every seed the workload is properly labelled on its machine: no sequential run has a data race. Between
+/// two uses of a counter by different harts the first one's hart frees the counter's lock word, and then the
+/// second one's asks for it.
+pub fn workloads_are_properly_labelled()
+    ensures { WorkloadsAreProperlyLabelled }
 {}
