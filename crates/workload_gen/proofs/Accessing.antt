@@ -1,7 +1,6 @@
 -- What the other instructions of the workload make of a hart: those that hold the seed, that use memory or a lock word, the branch and the end.
-use Rattle.std.proofs.Common.{Bool, None, Some, ap, arith, cond, false, not, refl, sym, true, ℕ, ◌%◌, ◌&&◌, ◌*◌, ◌+◌, ◌-◌, ◌/◌, ◌<◌, ◌==◌, ◌^◌, ◌∙◌, ◌≡◌, ◌≢◌, ◌≤◌}
+use Rattle.std.proofs.Common.{Bool, None, Some, ap, arith, false, not, refl, sym, true, ℕ, ◌%◌, ◌&&◌, ◌*◌, ◌+◌, ◌-◌, ◌/◌, ◌<◌, ◌==◌, ◌^◌, ◌∙◌, ◌≡◌, ◌≢◌, ◌≤◌}
 use Rattle.std.specs.Prelude.{ℤ, if◌then◌else◌, negsuc, pos, nat_lt}
-use Rattle.std.specs.Int.{cast_unsigned, w32}
 use Rattle.std.proofs.Math.Facts.{yes_leb}
 use Rattle.std.proofs.lemmas.Bool.Decides.{nat_tests}
 use Rattle.dash_base.specs.Ranges.{FitsBits}
@@ -15,13 +14,12 @@ use Rattle.dash_base.specs.declared.ops.AmoOp.TheVariants.{Swap}
 use Rattle.dash_base.specs.declared.topology.Topology.{Topology}
 use Rattle.dash_event.specs.Offered.{acquire_label, no_label, release_label}
 use Rattle.elf_load.specs.Image.{fetched, word_among, byte_among, is_writable}
-use Rattle.hart_core.specs.Access.{access_trap, amo_need, in_locks, in_memory, load_need, lock_need, mask_at, placed, store_need, trap_or}
-use Rattle.hart_core.specs.HartState.{HartState}
+use Rattle.hart_core.specs.Access.{access_trap, in_locks, in_memory, load_need, lock_need, mask_at, placed, store_need, trap_or}
 use Rattle.hart_core.specs.Meaning.{IsFound, jump_need}
 use Rattle.hart_core.specs.declared.found.Found.TheVariants.{This}
 use Rattle.hart_core.specs.declared.width.Width.TheVariants as width
 use Rattle.rv32_alu.specs.Arithmetic.{moved_by}
-use Rattle.rv32_decode.specs.Layout.{in_bits, u_type, i_type}
+use Rattle.rv32_decode.specs.Layout.{in_bits}
 use Rattle.workload_gen.specs.Program.{addi, image_of, lui, upper_part}
 use Rattle.workload_gen.specs.Workload.{IsMachine, counter_word, lock_word}
 use Rattle.workload_gen.proofs.Harts.{Makes, Registers, hart, makes}

@@ -1,5 +1,5 @@
 -- What one hart's progress leaves of the others', and sums over all harts.
-use Rattle.std.proofs.Common.{Bool, ap, arith, false, refl, subst, suc, sym, true, zero, ℕ, ◌+◌, ◌*◌, ◌<◌, ◌==◌, ◌∙◌, ◌≡◌, ◌≢◌, ◌≤◌, ◌⊎◌, inl, inr}
+use Rattle.std.proofs.Common.{Bool, ap, arith, false, refl, subst, suc, sym, true, zero, ℕ, ◌+◌, ◌*◌, ◌<◌, ◌==◌, ◌≡◌, ◌≢◌, ◌≤◌, ◌⊎◌, inl, inr}
 use Rattle.std.specs.Prelude.{if◌then◌else◌}
 use Rattle.std.proofs.lemmas.Bool.Decides.{nat_tests}
 use Rattle.workload_gen.specs.Workload.{sum_below}

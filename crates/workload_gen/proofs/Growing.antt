@@ -1,10 +1,9 @@
 -- What the stores of a word wrote, in a list of records that grows, and whole words that are loaded and stored.
-use Rattle.std.proofs.Common.{Bool, List, None, Option, Some, [], ap, arith, false, refl, sym, true, ℕ, ◌%◌, ◌&&◌, ◌*◌, ◌+◌, ◌++◌, ◌/◌, ◌<◌, ◌==◌, ◌^◌, ◌∙◌, ◌∷◌, ◌≡◌, ◌≢◌}
-use Rattle.std.specs.Prelude.{flat_map, if◌then◌else◌, unwrap_or}
+use Rattle.std.proofs.Common.{List, None, Option, Some, [], ap, arith, refl, ℕ, ◌%◌, ◌*◌, ◌+◌, ◌++◌, ◌/◌, ◌<◌, ◌^◌, ◌∙◌, ◌∷◌, ◌≡◌}
+use Rattle.std.specs.Prelude.{unwrap_or}
 use Rattle.std.specs.List.{last_or}
 use Rattle.std.proofs.lemmas.List.Concat.{flat_map-append}
 use Rattle.dash_base.specs.Words.{merged}
-use Rattle.dash_event.specs.Effects.{word_after}
 use Rattle.dash_event.specs.Offered.{all_bytes, bytes_under}
 use Rattle.dash_event.specs.declared.step_record.StepRecord.{StepRecord}
 use Rattle.workload_gen.specs.LastStores.{last_of, stored_by, stores_among}

@@ -1,5 +1,5 @@
 -- Harts of the workload by their registers, and what an instruction makes of one.
-use Rattle.std.proofs.Common.{List, [], ap, refl, subst, ℕ, ◌∙◌, ◌∷◌, ◌≡◌}
+use Rattle.std.proofs.Common.{List, [], ap, ℕ, ◌∙◌, ◌∷◌, ◌≡◌}
 use Rattle.dash_base.specs.declared.end.End.TheVariants.{Running}
 use Rattle.dash_base.specs.declared.instr.Instr.{Instr}
 use Rattle.dash_base.specs.declared.need.Need.{Need}

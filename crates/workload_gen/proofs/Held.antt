@@ -1,5 +1,5 @@
 -- Who holds a lock word, in a list of records that grows.
-use Rattle.std.proofs.Common.{List, Some, [], ap, arith, inl, inr, length, refl, subst, suc, sym, zero, ℕ, ◌++◌, ◌+◌, ◌<◌, ◌∙◌, ◌∷◌, ◌≡◌, ◌≢◌, ◌≤◌, ◌⊎◌}
+use Rattle.std.proofs.Common.{List, Some, [], ap, arith, length, refl, subst, suc, sym, zero, ℕ, ◌++◌, ◌<◌, ◌∙◌, ◌∷◌, ◌≡◌, ◌≤◌}
 use Rattle.std.specs.Prelude.{slice_get}
 use Rattle.std.proofs.lemmas.Option.{slice_get_within}
 use Rattle.dash_base.specs.declared.id.HartId.{HartId}
@@ -9,7 +9,7 @@ use Rattle.dash_event.specs.declared.access.Op.TheVariants as op
 use Rattle.dash_event.specs.declared.step_record.StepRecord.{StepRecord}
 use Rattle.dash_event.specs.declared.step_record.StepRecord.TheVariants as step
 use Rattle.flat_model.specs.LastBefore.{IsLockAccess}
-use Rattle.flat_model.specs.Order.{IsAccessAt, IsAt}
+use Rattle.flat_model.specs.Order.{IsAccessAt}
 use Rattle.workload_gen.specs.Guarded.{Asks, Counter, IsGuarded, IsHeldBefore, Unlocks}
 use Rattle.workload_gen.specs.Progress.{IsInside, Progress}
 use Rattle.workload_gen.specs.Workload.{lock_word}

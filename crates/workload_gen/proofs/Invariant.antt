@@ -1,29 +1,26 @@
 -- What every sequential run of the workload keeps, by the step that a hart makes.
-use Rattle.std.proofs.Common.{Bool, List, None, Option, Some, [], ap, arith, false, inl, inr, length, not, refl, subst, suc, sym, true, zero, ℕ, ◌%◌, ◌&&◌, ◌*◌, ◌+◌, ◌++◌, ◌<◌, ◌==◌, ◌^◌, ◌∙◌, ◌∷◌, ◌≡◌, ◌≢◌, ◌≤◌, ◌⊎◌}
+use Rattle.std.proofs.Common.{Bool, List, None, Some, [], ap, arith, false, inl, inr, length, not, refl, subst, suc, sym, true, ℕ, ◌%◌, ◌&&◌, ◌*◌, ◌+◌, ◌++◌, ◌<◌, ◌==◌, ◌^◌, ◌∙◌, ◌∷◌, ◌≡◌, ◌≢◌, ◌⊎◌}
 use Rattle.std.specs.Prelude.{if◌then◌else◌, unwrap_or}
-use Rattle.dash_base.specs.Places.{hart_count}
 use Rattle.dash_base.specs.Words.{merged}
 use Rattle.dash_base.specs.declared.end.End.TheVariants.{Exited}
 use Rattle.dash_base.specs.declared.need.Need.{Need}
 use Rattle.dash_base.specs.declared.need.Need.TheVariants as needed
 use Rattle.dash_base.specs.declared.topology.Topology.{Topology}
 use Rattle.dash_event.specs.Effects.{answer_of, hart_of, is_of_memory, lock_after, word_after, written_over}
-use Rattle.dash_event.specs.Offered.{acquire_label, all_bytes, bare_access, bytes_under, no_label, offered, release_label}
+use Rattle.dash_event.specs.Offered.{acquire_label, bare_access, no_label, offered, release_label}
 use Rattle.dash_event.specs.declared.access.Access.{Access}
 use Rattle.dash_event.specs.declared.access.Op.TheVariants as op
 use Rattle.dash_event.specs.declared.step_record.StepRecord.{StepRecord}
 use Rattle.dash_event.specs.declared.step_record.StepRecord.TheVariants as step
-use Rattle.flat_model.specs.LastBefore.{IsLockAccess}
-use Rattle.flat_model.specs.Order.{IsAccessAt}
 use Rattle.flat_model.specs.State.{FlatState}
 use Rattle.flat_model.specs.Step.{IsFlatStep, IsPossible, console_after, content, flat_state_after, record_of}
 use Rattle.hart_core.specs.HartState.{HartState}
 use Rattle.workload_gen.specs.Guarded.{Asks, Counter, IsGuarded, IsHeldBefore, Unlocks}
-use Rattle.workload_gen.specs.LastStores.{is_store, last_of, stored_by, stores_among}
+use Rattle.workload_gen.specs.LastStores.{is_store, last_of, stores_among}
 use Rattle.workload_gen.specs.Program.{image_of}
-use Rattle.workload_gen.specs.Progress.{Holding, IsInside, Loaded, Outside, Progress, Section, Stored, Summed}
+use Rattle.workload_gen.specs.Progress.{Holding, IsInside, Loaded, Outside, Progress, Stored, Summed}
 use Rattle.workload_gen.specs.Workload.{IsMachine, addend_of, counter_of, counter_word, draw, lock_word}
-use Rattle.workload_gen.proofs.Changed.{changed, changed_all, changed_here, changed_off, equal_or_not, is_same, not_same, other_is, same_is}
+use Rattle.workload_gen.proofs.Changed.{changed, equal_or_not, is_same, other_is, same_is}
 use Rattle.workload_gen.proofs.Growing.{last_kept, last_now, loaded_whole, stored_whole}
 use Rattle.workload_gen.proofs.Held.{Guards, all_guarded, held_now, still_held}
 use Rattle.workload_gen.proofs.Moving as moving

@@ -13,3 +13,4 @@ pub mod Invariant
 pub mod Runs
 pub mod Labelled
 pub mod LawsOffered
+pub mod SumsListed

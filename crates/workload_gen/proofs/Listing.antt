@@ -1,5 +1,5 @@
 -- The instructions of the generated workload, and where they stand.
-use Rattle.std.proofs.Common.{◌≡◌, ℕ, arith, refl}
+use Rattle.std.proofs.Common.{ℕ, arith, refl}
 use Rattle.std.specs.Prelude.{pos, negsuc}
 use Rattle.dash_base.specs.declared.instr.Instr.{Instr}
 use Rattle.dash_base.specs.declared.instr.Instr.TheVariants as instr

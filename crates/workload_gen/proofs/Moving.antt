@@ -1,17 +1,17 @@
 -- Each instruction of a hart of the workload brings it to its next stage.
-use Rattle.std.proofs.Common.{ap, arith, cond, false, inl, inr, nat_lt, refl, subst, suc, sym, true, zero, ℕ, ◌%◌, ◌&&◌, ◌*◌, ◌+◌, ◌-◌, ◌/◌, ◌<◌, ◌^◌, ◌∙◌, ◌≡◌, ◌≢◌, ◌≤◌, ◌⊎◌}
+use Rattle.std.proofs.Common.{arith, false, inl, inr, refl, subst, suc, sym, true, zero, ℕ, ◌%◌, ◌*◌, ◌+◌, ◌-◌, ◌/◌, ◌<◌, ◌^◌, ◌∙◌, ◌≡◌, ◌⊎◌}
 use Rattle.std.specs.Prelude.{bit_and}
 use Rattle.std.proofs.lemmas.Bool.Decides.{nat_tests}
 use Rattle.std.proofs.lemmas.Grind.{and_numeral}
-use Rattle.dash_base.specs.declared.end.End.TheVariants.{Exited, Running}
+use Rattle.dash_base.specs.declared.end.End.TheVariants.{Exited}
 use Rattle.dash_base.specs.declared.need.Need.{Need}
 use Rattle.dash_base.specs.declared.need.Need.TheVariants as needed
 use Rattle.dash_base.specs.declared.topology.Topology.{Topology}
 use Rattle.dash_event.specs.Offered.{no_label}
-use Rattle.hart_core.specs.HartState.{HartState, can_go_on, is_running}
+use Rattle.hart_core.specs.HartState.{HartState, can_go_on}
 use Rattle.hart_core.specs.Meaning.{Does}
 use Rattle.workload_gen.specs.Program.{image_of, upper_part}
-use Rattle.workload_gen.specs.Progress.{Holding, Loaded, Outside, Progress, Section, Stored, Summed}
+use Rattle.workload_gen.specs.Progress.{Holding, Loaded, Outside, Progress, Stored, Summed}
 use Rattle.workload_gen.specs.Workload.{IsMachine, addend_of, counter_of, counter_word, draw, lock_word}
 use Rattle.workload_gen.proofs.Accessing.{again_step, ask_step, call_step, load_step, over_step, seed_lower_step, seed_upper_step, store_step, unlock_step}
 use Rattle.workload_gen.proofs.Computing.{begin_step, call_number_step, choose_step, code_step, count_down_step, count_step, counter_address_step, counter_offset_step, counters_at_lower_step, counters_at_upper_step, cut_step, factor_lower_step, factor_upper_step, increase_step, increment_lower_step, increment_upper_step, lock_address_step, lock_offset_step, locks_at_lower_step, locks_at_upper_step, multiplier_lower_step, multiplier_upper_step, multiply_step, one_step, shift_step, spread_step, sum_step}

@@ -1,10 +1,8 @@
 -- Every sequential run of the workload keeps the invariant, and what it comes to.
-use Rattle.std.proofs.Common.{Bool, List, None, Some, [], ap, arith, false, inl, inr, refl, subst, suc, sym, true, zero, ℕ, ◌%◌, ◌&&◌, ◌*◌, ◌+◌, ◌++◌, ◌-◌, ◌<◌, ◌^◌, ◌∙◌, ◌∷◌, ◌≡◌, ◌≢◌, ◌≤◌, ◌⊎◌, append-nil}
-use Rattle.std.specs.Prelude.{nat_le, nat_lt}
+use Rattle.std.proofs.Common.{Bool, List, [], ap, arith, false, inl, inr, refl, subst, suc, sym, true, zero, ℕ, ◌*◌, ◌+◌, ◌++◌, ◌-◌, ◌<◌, ◌^◌, ◌∙◌, ◌∷◌, ◌≡◌, append-nil}
 use Rattle.std.proofs.lemmas.Bool.Decides.{nat_tests}
 use Rattle.std.proofs.lemmas.List.{append_assoc}
 use Rattle.dash_base.specs.Places.{hart_count}
-use Rattle.dash_base.specs.declared.end.End.TheVariants.{Exited}
 use Rattle.dash_base.specs.declared.id.WordAddr.{WordAddr}
 use Rattle.dash_base.specs.declared.need.Need.{Need}
 use Rattle.dash_base.specs.declared.need.Need.TheVariants as needed
@@ -12,18 +10,18 @@ use Rattle.dash_base.specs.declared.topology.Topology.{Topology}
 use Rattle.dash_event.specs.Effects.{hart_of}
 use Rattle.dash_event.specs.declared.step_record.StepRecord.{StepRecord}
 use Rattle.elf_load.specs.Image.{byte_among, opening_word, word_among}
-use Rattle.flat_model.specs.Run.{AreFlatSteps, IsBlocked, IsCompleteSequentialRun, IsFlatStopped, IsSequentialRun, RunsTo}
+use Rattle.flat_model.specs.Run.{AreFlatSteps, IsCompleteSequentialRun, IsFlatStopped, RunsTo}
 use Rattle.flat_model.specs.State.{FlatState, opening_state}
 use Rattle.hart_core.specs.HartState.{HartState, can_go_on}
 use Rattle.hart_core.specs.Meaning.{Does, Needs, after_need}
 use Rattle.workload_gen.specs.Guarded.{CountersAreGuarded}
 use Rattle.workload_gen.specs.LastStores.{last_of, stores_among}
 use Rattle.workload_gen.specs.Program.{image_of}
-use Rattle.workload_gen.specs.Progress.{Holding, IsInside, Loaded, Outside, Progress, Section, Stored, Summed}
+use Rattle.workload_gen.specs.Progress.{IsInside, Outside, Progress}
 use Rattle.workload_gen.specs.RunLaws.{CountersComeToTotals, HartsAreDone, HartsOnlyExit, IsDone, LastStoresWriteTotals, NothingIsPut}
-use Rattle.workload_gen.specs.Workload.{IsMachine, added, counter_of, counter_word, draw, lock_word, sum_below, total}
+use Rattle.workload_gen.specs.Workload.{IsMachine, added, counter_of, counter_word, draw, lock_word, sum_below, total, turns}
 use Rattle.workload_gen.proofs.Changed.{sum_same}
-use Rattle.workload_gen.proofs.Harts.{Registers, hart}
+use Rattle.workload_gen.proofs.Harts.{Registers}
 use Rattle.workload_gen.proofs.Invariant.{Holds, step_kept}
 use Rattle.workload_gen.proofs.Moving as moving
 use Rattle.workload_gen.proofs.Moving.{HasExited, Moves, counter_low, goes_or_exited, moved}
@@ -129,6 +127,7 @@ module _ (seed : ℕ) (seed_small : seed < 2 ^ 32) (t : Topology) (s : IsMachine
     ]
 
     pub total_is : (k : ℕ) → k < 64 → st.memory (counter_word k) ≡ total seed k
+    unfolding total turns
     total_is k low = i.values.sums k low ∙ sum_same (λ h. added seed k h (i.p h).done) (λ h. added seed k h 468) 64 (λ h below. ap (λ z. added seed k h z.done) (exited h below).progress)
 
 pub counters_are_guarded : CountersAreGuarded

@@ -1,6 +1,6 @@
 -- Lock words and sections: a lock word is not 0 exactly while one hart is inside the section of its counter.
-use Rattle.std.proofs.Common.{ap, arith, refl, subst, sym, ℕ, ◌<◌, ◌∙◌, ◌≡◌, ◌≢◌, ◌⊎◌, inl, inr}
-use Rattle.workload_gen.specs.Progress.{Holding, IsInside, Outside, Progress, Section, Stored}
+use Rattle.std.proofs.Common.{ap, refl, subst, sym, ℕ, ◌<◌, ◌∙◌, ◌≡◌, ◌≢◌, ◌⊎◌, inl, inr}
+use Rattle.workload_gen.specs.Progress.{Holding, IsInside, Outside, Progress, Stored}
 use Rattle.workload_gen.proofs.Changed.{changed, changed_all, changed_here, changed_off, equal_or_not}
 
 -- a hart is inside

@@ -4,3 +4,4 @@ pub mod Progress
 pub mod Guarded
 pub mod LastStores
 pub mod RunLaws
+pub mod Summary

@@ -1,5 +1,5 @@
 -- The program of the generated workload, word by word.
-use Rattle.std.specs.Prelude.{ℕ, ◌+◌, ◌-◌, ◌*◌, ◌/◌, ◌%◌, ◌^◌, List, [], ◌∷◌, ◌++◌, flat_map}
+use Rattle.std.specs.Prelude.{ℕ, ◌+◌, ◌*◌, ◌/◌, ◌%◌, ◌^◌, List, [], ◌∷◌, ◌++◌, flat_map}
 use Rattle.byteorder.specs.Endian.{little_bytes}
 use Rattle.elf_load.specs.Image.{ImageView}
 use Rattle.rv32_decode.specs.Layout.{b_type, i_type, r_type, s_type, u_type}
@@ -73,9 +73,13 @@ closing_words = addi 10 0 0 ∷ addi 17 0 93 ∷ ecall ∷ []
 abbrev pub words : ℕ → List ℕ
 words seed = opening_words seed ++ turn_words ++ closing_words
 
+-- their bytes, the lowest of each first
+abbrev pub code_of : ℕ → List ℕ
+code_of seed = flat_map (little_bytes 4) (words seed)
+
 -- the image: one segment at its entry, which may be read and executed
 abbrev pub image_of : ℕ → ImageView
 image_of seed = record {
   entry = 4096;
-  segments = record { vaddr = 4096; memsz = 140; flags = 5; bytes = flat_map (little_bytes 4) (words seed) } ∷ [];
+  segments = record { vaddr = 4096; memsz = 140; flags = 5; bytes = code_of seed } ∷ [];
 }

@@ -1,5 +1,5 @@
 -- What the generated workload computes: the numbers that each hart draws, the counters that it adds to, and their totals.
-use Rattle.std.specs.Prelude.{◌≡◌, ℕ, zero, suc, ◌+◌, ◌*◌, ◌/◌, ◌%◌, ◌^◌, ◌==◌, if◌then◌else◌}
+use Rattle.std.specs.Prelude.{ℕ, zero, suc, ◌+◌, ◌*◌, ◌/◌, ◌%◌, ◌^◌, ◌==◌, if◌then◌else◌}
 use Rattle.dash_base.specs.Sizes.{default_stack}
 use Rattle.dash_base.specs.Topology.{HasSizes}
 use Rattle.dash_base.specs.declared.sizes.Sizes.{Sizes}
@@ -9,7 +9,7 @@ use Rattle.dash_base.specs.declared.topology.Topology.{Topology}
 abbrev pub harts : ℕ
 harts = 64
 
-abbrev pub turns : ℕ
+unfoldable pub turns : ℕ
 turns = 468
 
 abbrev pub counters : ℕ
@@ -62,7 +62,7 @@ sum_below f zero = 0
 sum_below f (suc n) = sum_below f n + f n
 
 -- the total of counter k: what all harts add to it in all of their turns
-abbrev pub total : ℕ → ℕ → ℕ
+unfoldable pub total : ℕ → ℕ → ℕ
 total seed k = sum_below (λ h. added seed k h turns) harts
 
 -- the address of counter k's word, and of its lock word
