@@ -24,10 +24,10 @@ use Rattle.workload_gen.specs.RunLaws.{WorkloadsAreProperlyLabelled}
 use Rattle.workload_gen.specs.Workload.{IsMachine, counter_word, lock_word}
 use Rattle.workload_gen.proofs.Runs.{counters_are_guarded}
 
-one_access : (rs : List StepRecord) (i : ℕ) (a b : Access) → IsAccessAt rs i a → IsAccessAt rs i b → a ≡ b
+pub one_access : (rs : List StepRecord) (i : ℕ) (a b : Access) → IsAccessAt rs i a → IsAccessAt rs i b → a ≡ b
 one_access rs i a b at_a at_b = let same : Some (step.Access a) ≡ Some (step.Access b) = sym at_a ∙ at_b in cc
 
-three : (i j : ℕ) → (i < j) ⊎ ((i ≡ j) ⊎ (j < i))
+pub three : (i j : ℕ) → (i < j) ⊎ ((i ≡ j) ⊎ (j < i))
 three i j = grind arith
 
 same_word : (v w : WordAddr) → v.0 ≡ w.0 → v ≡ w

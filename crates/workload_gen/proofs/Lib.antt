@@ -12,5 +12,6 @@ pub mod Growing
 pub mod Invariant
 pub mod Runs
 pub mod Labelled
+pub mod LockWords
 pub mod LawsOffered
 pub mod SumsListed

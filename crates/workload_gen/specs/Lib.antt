@@ -5,3 +5,4 @@ pub mod Guarded
 pub mod LastStores
 pub mod RunLaws
 pub mod Summary
+pub mod LockWords

@@ -1,5 +1,5 @@
 -- The text of a summary of the workload.
-use Rattle.std.specs.Prelude.{ℕ, zero, suc, ◌*◌, List, [], ◌∷◌, ◌++◌, codes, decimal, length, slice_index}
+use Rattle.std.specs.Prelude.{ℕ, zero, suc, ◌*◌, ◌<◌, ◌^◌, List, [], ◌∷◌, ◌++◌, codes, decimal, length, slice_index}
 use Rattle.workload_gen.specs.Workload.{harts, counters, total}
 
 -- a numeric value for each counter of the first n
@@ -10,6 +10,10 @@ listed value (suc n) = listed value n ++ value n ∷ []
 -- the total of each counter
 unfoldable pub totals : ℕ → List ℕ
 totals seed = listed (total seed) counters
+
+-- a total fits a word
+abbrev pub TotalsFit : Type 0
+TotalsFit = (seed k : ℕ) → total seed k < 2 ^ 32
 
 -- the instructions that a hart retires: 16 before its turns, 16 in each of them, and 3 after
 abbrev pub retired_each : ℕ

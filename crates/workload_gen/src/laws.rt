@@ -4,7 +4,9 @@ ghost use Rattle.hart_core.specs.declared.found.Found.TheVariants.{NoWord};
 ghost use Rattle.std.specs.Prelude.{ℕ};
 ghost use Rattle.workload_gen.specs.Guarded.{CountersAreGuarded};
 ghost use Rattle.workload_gen.specs.RunLaws.{CountersComeToTotals, HartsAreDone, HartsOnlyExit, LastStoresWriteTotals, NothingIsPut, WorkloadsAreProperlyLabelled};
+ghost use Rattle.workload_gen.specs.LockWords.{LocksAreHeld};
 ghost use Rattle.workload_gen.specs.Program.{image_of};
+ghost use Rattle.workload_gen.specs.Summary.{TotalsFit};
 
 /// Behind the last instruction of the program there is no other one.
 pub fn nothing_follows()
@@ -16,6 +18,12 @@ pub fn nothing_follows()
 /// while it holds it, and makes no other access.
 pub fn counters_are_guarded()
     ensures { CountersAreGuarded }
+{}
+
+/// At the end of every sequential run, complete or not, a lock word is 1 where a hart has asked for it and not
+/// freed it, and 0 where none has.
+pub fn locks_are_held()
+    ensures { LocksAreHeld }
 {}
 
 /// In every sequential run a hart can go on, or has exited with code 0, having retired 7,507 instructions. So
@@ -50,4 +58,10 @@ pub fn last_stores_write_totals()
 /// second one's asks for it.
 pub fn workloads_are_properly_labelled()
     ensures { WorkloadsAreProperlyLabelled }
+{}
+
+/// The total of each counter fits a word, so no sum on the way to it wraps.
+#[tactic(auto, using(crate::proofs::SumsListed::total_small))]
+pub fn totals_fit()
+    ensures { TotalsFit }
 {}
