@@ -5,7 +5,7 @@ use dash_event::{Access, Event, Kind, Op, Seen};
 use std::alloc::Global;
 use std::test::Fail;
 use trace_merge::{accesses, console};
-use workload_runs::counters_of;
+use workload_runs::{counters_of, summary_of_run};
 
 const HART: HartId = HartId(0);
 
@@ -152,5 +152,9 @@ fn a_counter_is_what_the_last_store_of_its_word_wrote(rt: HostRuntime) -> Result
     assert_eq!(rt; counters[1], 6);
     assert_eq!(rt; counters[2], 0);
     assert_eq!(rt; counters[63], 8);
+    let text = summary_of_run(rt.alloc(), 7, &[20, 22], &log)?;
+    let head = b"seed 7 harts 2 retired 42\ncounter 0 7\ncounter 1 6\ncounter 2 0\n";
+    assert!(rt; text.starts_with(&head[..]));
+    assert!(rt; text.ends_with(&b"counter 62 0\ncounter 63 8\n"[..]));
     Ok(())
 }

@@ -8,7 +8,9 @@ use Rattle.dash_event.specs.declared.access.Access.{Access}
 use Rattle.dash_event.specs.declared.event.Event.{Event}
 use Rattle.dash_event.specs.declared.event.Kind.{Kind}
 use Rattle.dash_event.specs.declared.event.Kind.TheVariants.{Store}
-use Rattle.workload_runs.specs.Counters.{AreCounters, counter_count, counter_word, stored_in, stores_to}
+use Rattle.workload_gen.specs.Workload.{counter_word, counters}
+use Rattle.workload_runs.specs.Counters.{AreCounters, counters_in, last_stored, stored_in, stores_to}
+use Rattle.workload_runs.proofs.Lists.{listed_is}
 
 -- a store of another word stores nothing here
 none_by : (b : Bool) (x : ℕ) → b ≡ false → (if b then x ∷ [] else []) ≡ []
@@ -40,8 +42,8 @@ stores_more address log i e within item =
     sym (flat_map_more (λ (x : Event). stored_in address x.kind) [] (take i log) e ∙ ap (λ y. stores_to address (take i log ++ y ∷ [])) item ∙ ap (stores_to address) (sym (take_more log i e within)))
 
 -- one event more
-pub one_more : (log : List Event) (i : ℕ) (e : Event) (old new : List ℕ) → i < length log → e ≡ get_or log i e → AreCounters (take i log) old → length new ≡ counter_count
-    → ((k : ℕ) → k < counter_count → slice_index new k ≡ unwrap_or (last_or (Some (slice_index old k)) (stored_in (counter_word k) e.kind)) 0) → AreCounters (take (i + 1) log) new
+pub one_more : (log : List Event) (i : ℕ) (e : Event) (old new : List ℕ) → i < length log → e ≡ get_or log i e → AreCounters (take i log) old → length new ≡ counters
+    → ((k : ℕ) → k < counters → slice_index new k ≡ unwrap_or (last_or (Some (slice_index old k)) (stored_in (counter_word k) e.kind)) 0) → AreCounters (take (i + 1) log) new
 one_more log i e old new within item before count each = record {
   count = count;
   each = λ k low.
@@ -55,5 +57,8 @@ one_more log i e old new within item before count each = record {
 }
 
 -- all of them
-pub all_of : (log : List Event) (i : ℕ) (counters : List ℕ) → length log ≤ i → AreCounters (take i log) counters → AreCounters log counters
-all_of log i counters reached are = subst (λ es. AreCounters es counters) (take_all i log reached) are
+pub all_of : (log : List Event) (i : ℕ) (values : List ℕ) → length log ≤ i → AreCounters (take i log) values → values ≡ counters_in log
+unfolding counters_in
+all_of log i values reached are =
+    let whole = subst (λ es. AreCounters es values) (take_all i log reached) are in
+    listed_is (λ k. last_stored (counter_word k) log) values 64 whole.count whole.each

@@ -1,2 +1,5 @@
+pub mod Lists
 pub mod LastStores
 pub mod Stored
+pub mod Summaries
+pub mod AddedUp

@@ -6,28 +6,16 @@ use Rattle.std.proofs.lemmas.List.Concat.{flat_map-append}
 use Rattle.dash_base.specs.declared.topology.Topology.{Topology}
 use Rattle.dash_event.specs.Records.{records_in, records_of, unseen}
 use Rattle.dash_event.specs.declared.access.Access.{Access}
-use Rattle.dash_event.specs.declared.access.Op.{Op}
-use Rattle.dash_event.specs.declared.access.Op.TheVariants as op
 use Rattle.dash_event.specs.declared.event.Event.{Event}
 use Rattle.dash_event.specs.declared.event.Kind.{Kind}
 use Rattle.dash_event.specs.declared.event.Kind.TheVariants as kind
-use Rattle.dash_event.specs.declared.step_record.StepRecord.{StepRecord}
 use Rattle.dash_event.specs.declared.step_record.StepRecord.TheVariants as step
 use Rattle.elf_load.specs.Image.{ImageView}
 use Rattle.dash_model.specs.Log.{IsEventAt}
 use Rattle.dash_model.specs.Replay.{Harts, IsReplay, IsRmw, IsLoad, Replays}
+use Rattle.workload_gen.specs.LastStores.{is_store, stored_by}
 use Rattle.workload_runs.specs.Counters.{stored_in, stores_to}
 use Rattle.workload_runs.proofs.LastStores.{last_append}
-
--- whether an operation is a store
-abbrev pub is_store : Op → Bool
-is_store op.Store = true
-is_store kind = false
-
--- what a record stores in the word at an address, in a list of one
-abbrev pub stored_by : ℕ → StepRecord → List ℕ
-stored_by address (step.Access a) = if is_store a.op && (a.word.0 == address) then unwrap_or a.written 0 ∷ [] else []
-stored_by address r = []
 
 -- ---- events and their records
 

@@ -1,17 +1,11 @@
 -- The counters of the generated workload, as a log tells them.
-use Rattle.std.specs.Prelude.{◌≡◌, ℕ, ◌+◌, ◌*◌, ◌<◌, ◌==◌, if◌then◌else◌, List, [], ◌∷◌, flat_map, length, slice_index, None, unwrap_or}
-use Rattle.std.specs.List.{last_or}
+use Rattle.std.specs.Prelude.{◌≡◌, ℕ, ◌<◌, ◌==◌, if◌then◌else◌, List, [], ◌∷◌, flat_map, length, slice_index, unwrap_or}
 use Rattle.dash_event.specs.declared.event.Event.{Event}
 use Rattle.dash_event.specs.declared.event.Kind.{Kind}
 use Rattle.dash_event.specs.declared.event.Kind.TheVariants.{Store}
-
--- how many counters there are
-abbrev pub counter_count : ℕ
-counter_count = 64
-
--- the address of counter k's word
-abbrev pub counter_word : ℕ → ℕ
-counter_word k = 32768 + 16 * k
+use Rattle.workload_gen.specs.LastStores.{last_of}
+use Rattle.workload_gen.specs.Summary.{listed}
+use Rattle.workload_gen.specs.Workload.{counter_word, counters}
 
 -- what is stored in the word at an address, in a list of one, where a store of it retired
 abbrev pub stored_in : ℕ → Kind → List ℕ
@@ -24,9 +18,13 @@ stores_to address log = flat_map (λ e. stored_in address e.kind) log
 
 -- what the last of them wrote, or 0 where there is none
 abbrev pub last_stored : ℕ → List Event → ℕ
-last_stored address log = unwrap_or (last_or None (stores_to address log)) 0
+last_stored address log = last_of (stores_to address log)
 
 -- for each counter, what the last store of its word in a log wrote, or 0
-pub record AreCounters (log : List Event) (counters : List ℕ) : Type 0 where
-  pub count : length counters ≡ counter_count
-  pub each : (k : ℕ) → k < counter_count → slice_index counters k ≡ last_stored (counter_word k) log
+unfoldable pub counters_in : List Event → List ℕ
+counters_in log = listed (λ k. last_stored (counter_word k) log) counters
+
+-- the same of a list, counter by counter
+pub record AreCounters (log : List Event) (values : List ℕ) : Type 0 where
+  pub count : length values ≡ counters
+  pub each : (k : ℕ) → k < counters → slice_index values k ≡ last_stored (counter_word k) log

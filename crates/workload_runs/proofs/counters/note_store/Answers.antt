@@ -1,5 +1,5 @@
 use Rattle.std.proofs.Common.{refl, slice_index}
-use Rattle.workload_runs.specs.Counters.{counter_word}
+use Rattle.workload_gen.specs.Workload.{counter_word}
 use Rattle.workload_runs.proofs.LastStores.{kept, none_stored}
 use Rattle.workload_runs.proofs.counters.note_store.Goals as goal
 
