@@ -13,5 +13,6 @@ pub mod Invariant
 pub mod Runs
 pub mod Labelled
 pub mod LockWords
+pub mod Loaded
 pub mod LawsOffered
 pub mod SumsListed

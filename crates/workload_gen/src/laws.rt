@@ -1,12 +1,24 @@
-//! Laws of the workload. The functions do nothing: their contracts are the laws.
+//! Laws of the workload. A function does nothing, or is two calls in a row: its contract is the law.
 ghost use Rattle.hart_core.specs.Meaning.{IsFound};
 ghost use Rattle.hart_core.specs.declared.found.Found.TheVariants.{NoWord};
-ghost use Rattle.std.specs.Prelude.{ℕ};
+ghost use Rattle.elf_load.specs.declared.refusal.LoadRefusal.TheVariants.{OutOfMemory};
+ghost use Rattle.std.specs.Prelude.{◌≡◌, ℕ, IfErr, IfOk};
 ghost use Rattle.workload_gen.specs.Guarded.{CountersAreGuarded};
 ghost use Rattle.workload_gen.specs.RunLaws.{CountersComeToTotals, HartsAreDone, HartsOnlyExit, LastStoresWriteTotals, NothingIsPut, WorkloadsAreProperlyLabelled};
 ghost use Rattle.workload_gen.specs.LockWords.{LocksAreHeld};
 ghost use Rattle.workload_gen.specs.Program.{image_of};
 ghost use Rattle.workload_gen.specs.Summary.{TotalsFit};
+
+use crate::program::generate;
+use elf_load::{Image, LoadRefusal, MemoryMap};
+use rv32_encode::laws::load_of_write_elf;
+use std::alloc::Global;
+
+/// The memory of the workload's machine.
+const MEMORY: MemoryMap = MemoryMap {
+    base: 0,
+    size: 65_536,
+};
 
 /// Behind the last instruction of the program there is no other one.
 pub fn nothing_follows()
@@ -65,3 +77,17 @@ pub fn workloads_are_properly_labelled()
 pub fn totals_fit()
     ensures { TotalsFit }
 {}
+
+/// What is loaded of the program's file into the memory of its machine is the image of the seed. There is no
+/// refusal but for want of memory.
+///
+/// # Errors
+///
+/// `OutOfMemory` alone.
+pub fn load_of_generate(alloc: Global, seed: u32) -> Result<Image, LoadRefusal>
+    ensures image { IfOk result (λ image. image ≡ image_of seed) }
+    ensures refusal { IfErr result (λ refusal. refusal ≡ OutOfMemory) }
+{
+    let program = generate(alloc, seed)?;
+    load_of_write_elf(alloc, &program, MEMORY)
+}
