@@ -100,6 +100,13 @@ def written(name, data):
     return path
 
 
+def compile_rust(name):
+    """The path of the program that rustc makes of a source of this folder."""
+    made = os.path.join(OUT, name)
+    subprocess.run(["rustc", "--edition", "2021", "-O", "-o", made, os.path.join(BENCH, f"{name}.rs")], check=True)
+    return made
+
+
 def build_turns():
     """Has the program of crate unit_turns proved and built."""
     # `rt run` runs it as well: these words are none that it serves.
