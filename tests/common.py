@@ -8,6 +8,8 @@ import sys
 import tempfile
 
 ROOT = os.path.dirname(os.path.dirname(os.path.realpath(__file__)))
+# Races are looked for by what users have for it.
+sys.path.insert(0, os.path.join(ROOT, "tools"))
 LAUNCHER = os.path.join(ROOT, "dash")
 # What the launcher builds and runs: for many short runs, once it is built.
 PROGRAM = os.path.join(ROOT, "crates", "dash", "out", "dash")
