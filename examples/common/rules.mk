@@ -7,6 +7,9 @@ CC = riscv64-unknown-elf-gcc
 ARCH ?= rv32i
 COMMON := $(dir $(lastword $(MAKEFILE_LIST)))
 
+# Empty it keeps the symbols, which tools/view tells addresses by.
+STRIP ?= -Wl,--strip-all
+
 # GCC is not to make the loop of memset a call of memset.
 OWN_LOOPS ?= -fno-tree-loop-distribute-patterns
 CFLAGS = -march=$(ARCH) -mabi=ilp32 -std=c11 -O2 -Wall -Wextra -Werror \
@@ -14,7 +17,7 @@ CFLAGS = -march=$(ARCH) -mabi=ilp32 -std=c11 -O2 -Wall -Wextra -Werror \
 	-msmall-data-limit=0 -I$(COMMON)
 # -n packs the segment behind the headers; the image has code and data in one segment on purpose.
 LAYOUT ?= -T link.ld -Wl,-n -Wl,--no-warn-rwx-segments
-LDFLAGS = -nostdlib -static $(LAYOUT) -Wl,--build-id=none -Wl,--strip-all
+LDFLAGS = -nostdlib -static $(LAYOUT) -Wl,--build-id=none $(STRIP)
 
 all: $(NAME).elf
 
