@@ -15,3 +15,4 @@ pub mod Reports
 pub mod Theorem
 pub mod Broken
 pub mod HostCalls
+pub mod Workloads

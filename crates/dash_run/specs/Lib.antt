@@ -7,3 +7,4 @@ pub mod Output
 pub mod Theorem
 pub mod Laws
 pub mod Statuses
+pub mod Generated

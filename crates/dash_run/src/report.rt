@@ -58,7 +58,7 @@ fn push_harts(text: &mut String, topology: &Topology, units: &[Unit]) -> Result<
 }
 
 /// A hart by its number in the machine.
-fn hart_of<'a>(topology: &Topology, units: &'a [Unit], number: u32) -> &'a Hart
+pub fn hart_of<'a>(topology: &Topology, units: &'a [Unit], number: u32) -> &'a Hart
     requires on { AreOn (λ u. u.core) topology.now units.now }
     requires inside { number < hart_count topology.now }
     ensures { (image : ImageView) (m : Machine) → AreAt (λ u. u.core) (record { image = image; top = topology.now }) m units.now
