@@ -23,3 +23,5 @@ mod logs;
 mod spelling;
 #[cfg(test)]
 mod topologies;
+#[cfg(test)]
+mod workloads;
