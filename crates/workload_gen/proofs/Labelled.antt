@@ -1,20 +1,20 @@
 -- No sequential run of the workload has a race: between two uses of a counter by different harts, the first one's hart frees its lock word, and then the second one's asks for it.
-use Rattle.std.proofs.Common.{List, None, Option, Some, ap, arith, false, inl, inr, refl, subst, suc, sym, true, zero, ℕ, ◌+◌, ◌*◌, ◌<◌, ◌^◌, ◌∙◌, ◌≡◌, ◌≢◌, ◌≤◌, ◌⊎◌}
+use Rattle.std.proofs.Common.{List, None, Option, Some, ap, arith, false, inl, inr, refl, subst, suc, sym, true, zero, ℕ, ◌<◌, ◌^◌, ◌∙◌, ◌≡◌, ◌≢◌, ◌⊎◌}
 use Rattle.std.specs.Prelude.{IsSome}
 use Rattle.dash_base.specs.declared.id.HartId.{HartId}
 use Rattle.dash_base.specs.declared.id.WordAddr.{WordAddr}
 use Rattle.dash_base.specs.declared.topology.Topology.{Topology}
 use Rattle.dash_event.specs.Effects.{is_of_memory}
-use Rattle.dash_event.specs.Offered.{acquire_label, no_label, release_label}
+use Rattle.dash_event.specs.Offered.{acquire_label, release_label}
 use Rattle.dash_event.specs.declared.access.Access.{Access}
 use Rattle.dash_event.specs.declared.access.Op.{Op}
 use Rattle.dash_event.specs.declared.access.Op.TheVariants as op
 use Rattle.dash_event.specs.declared.step_record.StepRecord.{StepRecord}
 use Rattle.dash_event.specs.declared.step_record.StepRecord.TheVariants as step
 use Rattle.flat_model.proofs.LawsOffered.{across, locks_exclude}
-use Rattle.flat_model.specs.Labels.{IsAcquire, IsOrdinary, IsRelease}
-use Rattle.flat_model.specs.LastBefore.{IsLockAccess, LastBefore}
-use Rattle.flat_model.specs.Order.{AreOfOneHart, AreReleaseAndAcquire, HappensBefore, IsAccessAt}
+use Rattle.flat_model.specs.Labels.{IsOrdinary}
+use Rattle.flat_model.specs.LastBefore.{IsLockAccess}
+use Rattle.flat_model.specs.Order.{HappensBefore, IsAccessAt}
 use Rattle.flat_model.specs.Race.{IsRace}
 use Rattle.flat_model.specs.ReadLaws.{IsUnlockedBetween}
 use Rattle.flat_model.specs.Run.{IsSequentialRun}

@@ -1,19 +1,15 @@
 -- A lock word is what its last access wrote: 1 where that is an Ask, and a hart holds it wherever it is not 0.
-use Rattle.std.proofs.Common.{List, Option, Some, ap, arith, inl, inr, length, subst, sym, ℕ, ◌<◌, ◌^◌, ◌∙◌, ◌≡◌, ◌≢◌, ◌⊎◌}
-use Rattle.dash_base.specs.declared.topology.Topology.{Topology}
+use Rattle.std.proofs.Common.{List, Some, ap, inl, inr, length, subst, sym, ℕ, ◌<◌, ◌∙◌, ◌≡◌, ◌≢◌, ◌⊎◌}
 use Rattle.dash_event.specs.declared.access.Access.{Access}
 use Rattle.dash_event.specs.declared.access.Op.TheVariants as op
 use Rattle.dash_event.specs.declared.step_record.StepRecord.{StepRecord}
-use Rattle.dash_event.specs.declared.step_record.StepRecord.TheVariants as step
 use Rattle.flat_model.proofs.LawsOffered.{locks_at_end}
-use Rattle.flat_model.specs.LastBefore.{IsLockAccess, IsLockBefore}
+use Rattle.flat_model.specs.LastBefore.{IsLockBefore}
 use Rattle.flat_model.specs.Order.{IsAccessAt}
-use Rattle.flat_model.specs.Run.{RunsTo}
-use Rattle.flat_model.specs.State.{FlatState}
 use Rattle.workload_gen.specs.Guarded.{Asks, Counter, IsGuarded, Unlocks}
 use Rattle.workload_gen.specs.LockWords.{IsHeldAtEnd, LocksAreHeld}
 use Rattle.workload_gen.specs.Program.{image_of}
-use Rattle.workload_gen.specs.Workload.{IsMachine, lock_word}
+use Rattle.workload_gen.specs.Workload.{lock_word}
 use Rattle.workload_gen.proofs.Changed.{equal_or_not}
 use Rattle.workload_gen.proofs.Invariant.{Holds}
 use Rattle.workload_gen.proofs.Labelled.{one_access, three}

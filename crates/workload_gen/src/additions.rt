@@ -1,7 +1,7 @@
 //! What the workload comes to, without a run of it.
-ghost use Rattle.std.specs.Prelude.{◌≡◌, ◌≤◌, ◌<◌, ◌+◌, ◌*◌, ◌^◌, ℕ, IfOk, length, slice_index, All};
+ghost use Rattle.std.specs.Prelude.{◌≡◌, ◌≤◌, ◌<◌, ◌+◌, ◌*◌, ℕ, IfOk, length, slice_index};
 ghost use Rattle.workload_gen.specs.Summary.{totals};
-ghost use Rattle.workload_gen.specs.Workload.{added, addend_of, counter_of, counters, draw, harts, turns};
+ghost use Rattle.workload_gen.specs.Workload.{added, counters, draw, harts, turns};
 
 use dash_base::OutOfMemory;
 use std::alloc::Global;

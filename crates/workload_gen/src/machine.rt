@@ -1,6 +1,5 @@
 //! The machine of the workload.
-ghost use Rattle.std.specs.Prelude.{◌≡◌};
-ghost use Rattle.workload_gen.specs.Workload.{IsMachine, sizes};
+ghost use Rattle.workload_gen.specs.Workload.{IsMachine};
 
 use dash_base::{Sizes, Topology};
 

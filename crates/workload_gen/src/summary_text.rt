@@ -1,5 +1,5 @@
 //! The summary of the workload.
-ghost use Rattle.std.specs.Prelude.{◌≡◌, ◌++◌, ◌≤◌, ◌+◌, IfOk, OnOk, length, slice_index, string_bytes};
+ghost use Rattle.std.specs.Prelude.{◌≡◌, ◌++◌, IfOk, OnOk, length, slice_index, string_bytes};
 ghost use Rattle.workload_gen.specs.Summary.{summary_text, totals, retired_in_all, seed_line, counter_line, counter_lines};
 ghost use Rattle.workload_gen.specs.Workload.{harts};
 
