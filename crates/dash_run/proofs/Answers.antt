@@ -1,6 +1,8 @@
 -- The output for a file, from what the loader and the run say of it.
-use Rattle.std.proofs.Common.{◌≡◌, ℕ, Bool, inr, List, None, refl, subst}
-use Rattle.dash_base.specs.Topology.{IsSimple, simple_refusal}
+use Rattle.std.proofs.Common.{◌≡◌, ℕ, Bool, inr, List, Result, Ok, Err, IfErr, refl, subst}
+use Rattle.topology.specs.Document.{IsRefused}
+use Rattle.dash_base.specs.declared.topology.TopoRefusal.{TopoRefusal}
+use Rattle.dash_base.specs.declared.topology.TopoRefusal.TheVariants as topo
 use Rattle.dash_base.specs.declared.topology.Topology.{Topology}
 use Rattle.elf_load.specs.Image.{ImageView}
 use Rattle.elf_load.specs.Loader.{image_of, Refuses}
@@ -10,7 +12,8 @@ use Rattle.elf_load.specs.declared.refusal.LoadRefusal.{LoadRefusal}
 use Rattle.elf_load.specs.declared.refusal.LoadRefusal.TheVariants as load_refusal
 use Rattle.dash_run.specs.declared.output.Output.{Output}
 use Rattle.dash_run.specs.declared.output.Output.TheVariants.{Usage, Line, Report}
-use Rattle.dash_run.specs.CommandLine.{Request}
+use Rattle.dash_run.specs.Inputs.{Inputs}
+use Rattle.dash_run.specs.Accepted.{IsTopologyOf, IsRefusedText}
 use Rattle.dash_run.specs.Ran.{Ran}
 use Rattle.dash_run.specs.Output.{IsAnswer, IsAnswerOn, IsReport}
 
@@ -31,17 +34,17 @@ pub refusal_applies : (bytes : List ℕ) (map : MemoryMap) (refusal : LoadRefusa
 refusal_applies bytes map load_refusal.OutOfMemory other refuses = absurd (other refl)
 refusal_applies bytes map refusal other refuses = refuses
 
--- the output on a topology that was asked for is the output
-pub answer_on_asked : (q : Request) (t : Topology) (bytes : List ℕ) (output : Output) (ran : Ran)
-    → IsSimple q.clusters q.harts q.budget t → simple_refusal q.clusters q.harts q.budget ≡ None → IsAnswerOn q.log t bytes output ran → IsAnswer q bytes output ran
-answer_on_asked q t bytes Usage ran simple accepted answer = answer
-answer_on_asked q t bytes (Line status text) ran simple accepted (answer, none) = (
+-- the output on the topology of inputs is the output
+pub answer_of : (with_log : Bool) (inputs : Inputs) (t : Topology) (output : Output) (ran : Ran)
+    → IsTopologyOf inputs.source t → IsAnswerOn with_log t inputs.image output ran → IsAnswer with_log inputs output ran
+answer_of with_log inputs t Usage ran topology answer = answer
+answer_of with_log inputs t (Line status text) ran topology (answer, none) = (
   inr (record {
     refusal = answer.refusal;
     refused = record {
       machine = t;
       map = answer.map;
-      is_machine = record { simple = simple; accepted = accepted; base = answer.base; size = answer.size };
+      is_machine = record { topology = topology; base = answer.base; size = answer.size };
       refused = answer.refused;
     };
     status_is = answer.status_is;
@@ -49,10 +52,10 @@ answer_on_asked q t bytes (Line status text) ran simple accepted (answer, none) 
   }),
   none,
 )
-answer_on_asked q t bytes (Report status sections) ran simple accepted answer = record {
+answer_of with_log inputs t (Report status sections) ran topology answer = record {
   machine = t;
   map = answer.map;
-  is_machine = record { simple = simple; accepted = accepted; base = answer.base; size = answer.size };
+  is_machine = record { topology = topology; base = answer.base; size = answer.size };
   accepted = answer.accepted;
   cause = (answer.report).cause;
   run = (answer.report).run;
@@ -60,3 +63,11 @@ answer_on_asked q t bytes (Report status sections) ran simple accepted answer = 
   is_report = (answer.report).is_report;
   log_fits = (answer.report).log_fits;
 }
+
+-- a refusal for another cause than memory, of a text as it is read
+pub text_refused : (bytes : List ℕ) (refusal : TopoRefusal) → IsRefused bytes refusal → (refusal ≡ topo.OutOfMemory → ⊥) → IsRefusedText bytes refusal
+text_refused bytes refusal cause is_cause = record { cause = cause; is_cause = is_cause }
+
+pub refused_text_of : (bytes : List ℕ) (r : Result Topology TopoRefusal) → IfErr r (IsRefused bytes) → IfErr r (λ refusal. (refusal ≡ topo.OutOfMemory → ⊥) → IsRefusedText bytes refusal)
+refused_text_of bytes (Ok t) cause = tt
+refused_text_of bytes (Err refusal) cause = λ is_cause. text_refused bytes refusal cause is_cause

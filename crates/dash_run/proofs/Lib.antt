@@ -1,12 +1,16 @@
+pub mod Options
 pub mod Printing
 pub mod Texts
 pub mod Words
+pub mod Given
+pub mod Topologies
+pub mod Sources
 pub mod Maps
 pub mod Requests
 pub mod Answers
+pub mod Loading
 pub mod Outputs
 pub mod Records
-pub mod Topologies
 pub mod Runs
 pub mod Units
 pub mod Causes

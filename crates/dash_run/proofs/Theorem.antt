@@ -1,10 +1,9 @@
 -- What follows of a call that made a run from how it ended.
-use Rattle.std.proofs.Common.{◌≡◌, ℕ, ◌⊎◌, inl, inr, List, [], Option, Some, refl, sym, ◌∙◌, ap, subst}
+use Rattle.std.proofs.Common.{◌≡◌, ℕ, Bool, ◌⊎◌, inl, inr, List, [], Option, Some, refl, sym, ◌∙◌, ap, subst}
 use Rattle.dash_base.specs.Outside.{Files, Printed, Appends, AppendsPart, Follows, Call}
 use Rattle.dash_base.specs.declared.host.Stream.{Stream}
 use Rattle.dash_base.specs.declared.host.Stream.TheVariants as stream
 use Rattle.dash_event.specs.declared.event.Event.{Event}
-use Rattle.dash_base.specs.Topology.{IsSimple}
 use Rattle.elf_load.specs.Loader.{image_of}
 use Rattle.dash_model.specs.Config.{Config}
 use Rattle.dash_model.specs.Machine.{IsRun}
@@ -12,30 +11,33 @@ use Rattle.dash_model.specs.Complete.{IsCompleteRun, IsStatus}
 use Rattle.dash_run.specs.CommandLine.{Request, Asks}
 use Rattle.dash_run.specs.Ran.{Ran}
 use Rattle.dash_run.specs.Report.{report_of}
-use Rattle.dash_run.specs.Outcome.{IsOutput, usage, failed, large, bad_topology, refused, reported, Ends, printed_all, print_failed, out_of_memory, Change, IsGiven, IsReported, IsRunStatus, config_of, joined}
+use Rattle.dash_run.specs.Inputs.{Inputs, IsGiven, AreGiven}
+use Rattle.dash_run.specs.Accepted.{IsTopologyOf, config_of}
+use Rattle.dash_run.specs.Outcome.{IsOutput, usage, no_file, bad_topology, refused, reported, Ends, printed_all, print_failed, out_of_memory, Change, IsReported, IsRunStatus, joined}
 use Rattle.dash_run.specs.Theorem.{MadeRun, IsAskedFor, OfMachine, IsWholeRun, whole_report, part_of_report, HasPrinted, HasCause, run_ended, no_form, image_refused, topology_refused, had_fault, had_no_memory}
-use Rattle.dash_run.proofs.Causes.{reported_status, no_run_status}
+use Rattle.dash_run.proofs.Causes.{reported_status, no_run_status, fault_of}
 use Rattle.dash_run.proofs.Runs.{not_empty}
 use Rattle.dash_run.proofs.Requests.{one_request}
-use Rattle.dash_run.proofs.Topologies.{one_machine}
-use Rattle.dash_run.proofs.Converses.{some_injective}
+use Rattle.dash_run.proofs.Sources.{one_topology}
+use Rattle.dash_run.proofs.Given.{one_inputs}
+use Rattle.dash_run.proofs.Options.{some_injective}
 
 -- the words ask for a run with this report, which stands ready for a stream
 record HasReport (words : List (List ℕ)) (files : Option Files) (status : ℕ) (to : Stream) (texts : List (List ℕ)) (ran : Ran) : Type 0 where
   pub request : Request
   pub asked : Asks words request
-  pub bytes : List ℕ
-  pub given : IsGiven files request.name bytes
-  pub report : IsReported request bytes status texts ran
+  pub inputs : Inputs
+  pub given : AreGiven files request inputs
+  pub report : IsReported request.log inputs status texts ran
   pub on_out : to ≡ stream.Out
 
 -- the machine of a report
 asked_for : (words : List (List ℕ)) (files : Option Files) (status : ℕ) (to : Stream) (texts : List (List ℕ)) (ran : Ran) → (r : HasReport words files status to texts ran)
-    → IsAskedFor words files (config_of r.bytes r.report.machine)
+    → IsAskedFor words files (config_of r.inputs.image r.report.machine)
 asked_for words files status to texts ran r = record {
   request = r.request;
   asked = r.asked;
-  bytes = r.bytes;
+  inputs = r.inputs;
   given = r.given;
   map = (r.report).map;
   is_machine = (r.report).is_machine;
@@ -48,15 +50,14 @@ none_left : (status : ℕ) → (status ≡ 2) ⊎ (status ≡ 3) ⊎ (status ≡
 none_left status other (inl run) = no_run_status status other run
 none_left status other (inr some) = some refl
 
-output_made : (words : List (List ℕ)) (files : Option Files) (before after status : ℕ) (to : Stream) (texts : List (List ℕ)) (ran : Ran)
-    → IsOutput words files before after status to texts ran → MadeRun status ran.log → HasReport words files status to texts ran
-output_made words files before after _ _ _ _ (usage none same) made = absurd (none_left 2 (inl refl) made)
-output_made words files before after _ _ _ _ (failed q asks rose) made = absurd (none_left 5 (inr (inr (inr (inl refl)))) made)
-output_made words files before after _ _ _ _ (large q size asks is same) made = absurd (none_left 5 (inr (inr (inr (inl refl)))) made)
-output_made words files before after _ _ _ _ (bad_topology q bytes refusal asks given is same) made = absurd (none_left 4 (inr (inr (inl refl))) made)
-output_made words files before after _ _ _ _ (refused q bytes refusal asks given is same) made = absurd (none_left 3 (inr (inl refl)) made)
-output_made words files before after _ _ _ _ (reported q bytes s t ran asks given is same) made =
-    record { request = q; asked = asks; bytes = bytes; given = given; report = is; on_out = refl }
+output_made : (words : List (List ℕ)) (files : Option Files) (before after : ℕ) (loaded : List Call) (status : ℕ) (to : Stream) (texts : List (List ℕ)) (ran : Ran)
+    → IsOutput words files before after loaded status to texts ran → MadeRun status ran.log → HasReport words files status to texts ran
+output_made words files before after _ _ _ _ _ (usage none same) made = absurd (none_left 2 (inl refl) made)
+output_made words files before after _ _ _ _ _ (no_file q file loaded text asks reached fault) made = absurd (none_left 5 (inr (inr (inr (inl refl)))) made)
+output_made words files before after _ _ _ _ _ (bad_topology q inputs refusal asks given is same) made = absurd (none_left 4 (inr (inr (inl refl))) made)
+output_made words files before after _ _ _ _ _ (refused q inputs refusal asks given is same) made = absurd (none_left 3 (inr (inl refl)) made)
+output_made words files before after _ _ _ _ _ (reported q inputs s t ran asks given is same) made =
+    record { request = q; asked = asks; inputs = inputs; given = given; report = is; on_out = refl }
 
 -- where a print failed, the output was made with a status of its own
 other_made : (status : ℕ) (ran : Ran) → MadeRun 5 ran.log → MadeRun status ran.log
@@ -68,18 +69,18 @@ other_made status ran (inr some) = inr some
 whole_of : (words : List (List ℕ)) (files : Option Files) (status : ℕ) (to : Stream) (texts : List (List ℕ)) (ran : Ran) → HasReport words files status to texts ran
     → OfMachine words files (IsWholeRun ran)
 whole_of words files status to texts ran r = record {
-  machine = config_of r.bytes r.report.machine;
+  machine = config_of r.inputs.image r.report.machine;
   asked = asked_for words files status to texts ran r;
   holds = record { cause = (r.report).cause; run = (r.report).run };
 }
 
 pub whole_run : (words : List (List ℕ)) (files : Option Files) (loads prints : Change ℕ) (printed : Change (Option Printed)) (calls : Change (Option (List Call))) (status : ℕ) (ran : Ran)
     → Ends words files loads prints printed calls status ran → MadeRun status ran.log → OfMachine words files (IsWholeRun ran)
-whole_run words files loads prints printed calls _ _ (printed_all s to texts ran is_output steady follows calls_made) made =
-    whole_of words files s to texts ran (output_made _ _ _ _ _ _ _ _ is_output made)
-whole_run words files loads prints printed calls _ _ (print_failed s to texts ran is_output rose follows calls_made) made =
-    whole_of words files s to texts ran (output_made _ _ _ _ _ _ _ _ is_output (other_made s ran made))
-whole_run words files loads prints printed calls _ _ (out_of_memory q asks steady same calls_made) made = absurd (none_left 6 (inr (inr (inr (inr refl)))) made)
+whole_run words files loads prints printed calls _ _ (printed_all loaded s to texts ran is_output steady follows calls_made) made =
+    whole_of words files s to texts ran (output_made _ _ _ _ _ _ _ _ _ is_output made)
+whole_run words files loads prints printed calls _ _ (print_failed loaded s to texts ran is_output rose follows calls_made) made =
+    whole_of words files s to texts ran (output_made _ _ _ _ _ _ _ _ _ is_output (other_made s ran made))
+whole_run words files loads prints printed calls _ _ (out_of_memory q loaded asks loading steady same calls_made) made = absurd (none_left 6 (inr (inr (inr (inr refl)))) made)
 
 -- ---- nothing is left
 
@@ -87,47 +88,46 @@ whole_run words files loads prints printed calls _ _ (out_of_memory q asks stead
 abbrev pub IsNone : Ran → Type 0
 IsNone ran = (ran.units ≡ []) × (ran.rounds ≡ 0)
 
-report_none : (q : Request) (bytes : List ℕ) (status : ℕ) (texts : List (List ℕ)) (ran : Ran) → IsReported q bytes status texts ran → ran.log ≡ [] → ⊥
-report_none q bytes status texts ran report none =
-    let w = config_of bytes report.machine in
+report_none : (with_log : Bool) (inputs : Inputs) (status : ℕ) (texts : List (List ℕ)) (ran : Ran) → IsReported with_log inputs status texts ran → ran.log ≡ [] → ⊥
+report_none with_log inputs status texts ran report none =
+    let w = config_of inputs.image report.machine in
     let run : IsCompleteRun w ran.log = record { end = report.run.finished.end; reaches = report.run.finished.reaches; complete = report.run.finished.complete } in
     not_empty w (subst (λ (l : List Event). IsCompleteRun w l) none run)
 
-output_none : (words : List (List ℕ)) (files : Option Files) (before after status : ℕ) (to : Stream) (texts : List (List ℕ)) (ran : Ran)
-    → IsOutput words files before after status to texts ran → ran.log ≡ [] → IsNone ran
-output_none words files before after _ _ _ _ (usage none same) empty = (refl, refl)
-output_none words files before after _ _ _ _ (failed q asks rose) empty = (refl, refl)
-output_none words files before after _ _ _ _ (large q size asks is same) empty = (refl, refl)
-output_none words files before after _ _ _ _ (bad_topology q bytes refusal asks given is same) empty = (refl, refl)
-output_none words files before after _ _ _ _ (refused q bytes refusal asks given is same) empty = (refl, refl)
-output_none words files before after _ _ _ _ (reported q bytes s t ran asks given is same) empty = absurd (report_none q bytes s t ran is empty)
+output_none : (words : List (List ℕ)) (files : Option Files) (before after : ℕ) (loaded : List Call) (status : ℕ) (to : Stream) (texts : List (List ℕ)) (ran : Ran)
+    → IsOutput words files before after loaded status to texts ran → ran.log ≡ [] → IsNone ran
+output_none words files before after _ _ _ _ _ (usage none same) empty = (refl, refl)
+output_none words files before after _ _ _ _ _ (no_file q file loaded text asks reached fault) empty = (refl, refl)
+output_none words files before after _ _ _ _ _ (bad_topology q inputs refusal asks given is same) empty = (refl, refl)
+output_none words files before after _ _ _ _ _ (refused q inputs refusal asks given is same) empty = (refl, refl)
+output_none words files before after _ _ _ _ _ (reported q inputs s t ran asks given is same) empty = absurd (report_none q.log inputs s t ran is empty)
 
 -- an output with the status of a run leaves its log
-pub output_left : (words : List (List ℕ)) (files : Option Files) (before after status : ℕ) (to : Stream) (texts : List (List ℕ)) (ran : Ran)
-    → IsOutput words files before after status to texts ran → IsRunStatus status → ran.log ≡ [] → ⊥
-output_left words files before after status to texts ran is_output run =
-    let r = output_made words files before after status to texts ran is_output (inl run) in
-    report_none r.request r.bytes status texts ran r.report
+pub output_left : (words : List (List ℕ)) (files : Option Files) (before after : ℕ) (loaded : List Call) (status : ℕ) (to : Stream) (texts : List (List ℕ)) (ran : Ran)
+    → IsOutput words files before after loaded status to texts ran → IsRunStatus status → ran.log ≡ [] → ⊥
+output_left words files before after loaded status to texts ran is_output run =
+    let r = output_made words files before after loaded status to texts ran is_output (inl run) in
+    report_none r.request.log r.inputs status texts ran r.report
 
 pub none_of : (words : List (List ℕ)) (files : Option Files) (loads prints : Change ℕ) (printed : Change (Option Printed)) (calls : Change (Option (List Call))) (status : ℕ) (ran : Ran)
     → Ends words files loads prints printed calls status ran → ran.log ≡ [] → IsNone ran
-none_of words files loads prints printed calls _ _ (printed_all s to texts ran is_output steady follows calls_made) empty = output_none _ _ _ _ _ _ _ _ is_output empty
-none_of words files loads prints printed calls _ _ (print_failed s to texts ran is_output rose follows calls_made) empty = output_none _ _ _ _ _ _ _ _ is_output empty
-none_of words files loads prints printed calls _ _ (out_of_memory q asks steady same calls_made) empty = (refl, refl)
+none_of words files loads prints printed calls _ _ (printed_all loaded s to texts ran is_output steady follows calls_made) empty = output_none _ _ _ _ _ _ _ _ _ is_output empty
+none_of words files loads prints printed calls _ _ (print_failed loaded s to texts ran is_output rose follows calls_made) empty = output_none _ _ _ _ _ _ _ _ _ is_output empty
+none_of words files loads prints printed calls _ _ (out_of_memory q loaded asks loading steady same calls_made) empty = (refl, refl)
 
 -- ---- what is printed
 
 -- the exit status of a report is that of its run
-status_in : (q : Request) (bytes : List ℕ) (status : ℕ) (texts : List (List ℕ)) (ran : Ran) → (report : IsReported q bytes status texts ran)
-    → IsStatus (config_of bytes report.machine) report.run.finished.end status
-status_in q bytes status texts ran report =
-    subst (λ (s : ℕ). IsStatus (config_of bytes report.machine) report.run.finished.end s) (sym report.is_status) report.run.finished.status
+status_in : (with_log : Bool) (inputs : Inputs) (status : ℕ) (texts : List (List ℕ)) (ran : Ran) → (report : IsReported with_log inputs status texts ran)
+    → IsStatus (config_of inputs.image report.machine) report.run.finished.end status
+status_in with_log inputs status texts ran report =
+    subst (λ (s : ℕ). IsStatus (config_of inputs.image report.machine) report.run.finished.end s) (sym report.is_status) report.run.finished.status
 
 printed_of : (words : List (List ℕ)) (files : Option Files) (status : ℕ) (to : Stream) (texts : List (List ℕ)) (ran : Ran) (printed : Change (Option Printed))
     → HasReport words files status to texts ran → Follows (Appends to (joined texts)) printed.old printed.new → OfMachine words files (HasPrinted words ran.log status printed)
 printed_of words files status to texts ran printed r follows =
     let report = r.report in
-    let w = config_of r.bytes report.machine in
+    let w = config_of r.inputs.image report.machine in
     let end = report.run.finished.end in
     let on_out : Follows (Appends stream.Out (joined texts)) printed.old printed.new = subst (λ (s : Stream). Follows (Appends s (joined texts)) printed.old printed.new) r.on_out follows in
     let of_report : Follows (Appends stream.Out (joined (report_of r.request.log w end status ran.log))) printed.old printed.new =
@@ -142,7 +142,7 @@ part_of : (words : List (List ℕ)) (files : Option Files) (status : ℕ) (to : 
     → HasReport words files status to texts ran → Follows (AppendsPart to (joined texts)) printed.old printed.new → OfMachine words files (HasPrinted words ran.log 5 printed)
 part_of words files status to texts ran printed r follows =
     let report = r.report in
-    let w = config_of r.bytes report.machine in
+    let w = config_of r.inputs.image report.machine in
     let end = report.run.finished.end in
     let on_out : Follows (AppendsPart stream.Out (joined texts)) printed.old printed.new = subst (λ (s : Stream). Follows (AppendsPart s (joined texts)) printed.old printed.new) r.on_out follows in
     let of_report : Follows (AppendsPart stream.Out (joined (report_of r.request.log w end status ran.log))) printed.old printed.new =
@@ -155,11 +155,11 @@ part_of words files status to texts ran printed r follows =
 
 pub report_printed : (words : List (List ℕ)) (files : Option Files) (loads prints : Change ℕ) (printed : Change (Option Printed)) (calls : Change (Option (List Call))) (status : ℕ) (ran : Ran)
     → Ends words files loads prints printed calls status ran → MadeRun status ran.log → OfMachine words files (HasPrinted words ran.log status printed)
-report_printed words files loads prints printed calls _ _ (printed_all s to texts ran is_output steady follows calls_made) made =
-    printed_of words files s to texts ran printed (output_made _ _ _ _ _ _ _ _ is_output made) follows
-report_printed words files loads prints printed calls _ _ (print_failed s to texts ran is_output rose follows calls_made) made =
-    part_of words files s to texts ran printed (output_made _ _ _ _ _ _ _ _ is_output (other_made s ran made)) follows
-report_printed words files loads prints printed calls _ _ (out_of_memory q asks steady same calls_made) made = absurd (none_left 6 (inr (inr (inr (inr refl)))) made)
+report_printed words files loads prints printed calls _ _ (printed_all loaded s to texts ran is_output steady follows calls_made) made =
+    printed_of words files s to texts ran printed (output_made _ _ _ _ _ _ _ _ _ is_output made) follows
+report_printed words files loads prints printed calls _ _ (print_failed loaded s to texts ran is_output rose follows calls_made) made =
+    part_of words files s to texts ran printed (output_made _ _ _ _ _ _ _ _ _ is_output (other_made s ran made)) follows
+report_printed words files loads prints printed calls _ _ (out_of_memory q loaded asks loading steady same calls_made) made = absurd (none_left 6 (inr (inr (inr (inr refl)))) made)
 
 -- ---- what is so of each run
 
@@ -169,34 +169,35 @@ of_run words files ran P holds whole =
 
 -- ---- the cause of each status
 
-output_cause : (words : List (List ℕ)) (files : Option Files) (loads prints : Change ℕ) (status : ℕ) (to : Stream) (texts : List (List ℕ)) (ran : Ran)
-    → IsOutput words files loads.old loads.new status to texts ran → HasCause words files loads prints ran.log status
-output_cause words files loads prints _ _ _ _ (usage none same) = no_form none
-output_cause words files loads prints _ _ _ _ (failed q asks rose) = had_fault (inl rose)
-output_cause words files loads prints _ _ _ _ (large q size asks is same) = had_fault (inr (inr (record { request = q; asked = asks; size = size; large = is })))
-output_cause words files loads prints _ _ _ _ (bad_topology q bytes refusal asks given is same) =
-    topology_refused (record { request = q; asked = asks; bytes = bytes; given = given; refusal = refusal; refused = is })
-output_cause words files loads prints _ _ _ _ (refused q bytes refusal asks given is same) =
-    image_refused (record { request = q; asked = asks; bytes = bytes; given = given; refusal = refusal; refused = is })
-output_cause words files loads prints _ _ _ _ (reported q bytes s t ran asks given is same) = run_ended s (reported_status q bytes s t ran is) (record {
-  machine = config_of bytes is.machine;
-  asked = asked_for words files s stream.Out t ran (record { request = q; asked = asks; bytes = bytes; given = given; report = is; on_out = refl });
-  holds = record { end = is.run.finished.end; reaches = is.run.finished.reaches; complete = is.run.finished.complete; is_status = status_in q bytes s t ran is };
+output_cause : (words : List (List ℕ)) (files : Option Files) (loads prints : Change ℕ) (loaded : List Call) (status : ℕ) (to : Stream) (texts : List (List ℕ)) (ran : Ran)
+    → IsOutput words files loads.old loads.new loaded status to texts ran → HasCause words files loads prints ran.log status
+output_cause words files loads prints _ _ _ _ _ (usage none same) = no_form none
+output_cause words files loads prints _ _ _ _ _ (no_file q file loaded text asks reached fault) = had_fault (fault_of words files loads prints q file loaded text asks reached fault)
+output_cause words files loads prints _ _ _ _ _ (bad_topology q inputs refusal asks given is same) =
+    topology_refused (record { request = q; asked = asks; inputs = inputs; given = given; refusal = refusal; refused = is })
+output_cause words files loads prints _ _ _ _ _ (refused q inputs refusal asks given is same) =
+    image_refused (record { request = q; asked = asks; inputs = inputs; given = given; refusal = refusal; refused = is })
+output_cause words files loads prints _ _ _ _ _ (reported q inputs s t ran asks given is same) = run_ended s (reported_status q.log inputs s t ran is) (record {
+  machine = config_of inputs.image is.machine;
+  asked = asked_for words files s stream.Out t ran (record { request = q; asked = asks; inputs = inputs; given = given; report = is; on_out = refl });
+  holds = record { end = is.run.finished.end; reaches = is.run.finished.reaches; complete = is.run.finished.complete; is_status = status_in q.log inputs s t ran is };
 })
 
 pub has_cause : (words : List (List ℕ)) (files : Option Files) (loads prints : Change ℕ) (printed : Change (Option Printed)) (calls : Change (Option (List Call))) (status : ℕ) (ran : Ran)
     → Ends words files loads prints printed calls status ran → HasCause words files loads prints ran.log status
-has_cause words files loads prints printed calls _ _ (printed_all s to texts ran is_output steady follows calls_made) = output_cause _ _ _ _ _ _ _ _ is_output
-has_cause words files loads prints printed calls _ _ (print_failed s to texts ran is_output rose follows calls_made) = had_fault (inr (inl rose))
-has_cause words files loads prints printed calls _ _ (out_of_memory q asks steady same calls_made) = had_no_memory (record { request = q; asks = asks })
+has_cause words files loads prints printed calls _ _ (printed_all loaded s to texts ran is_output steady follows calls_made) = output_cause _ _ _ _ _ _ _ _ _ is_output
+has_cause words files loads prints printed calls _ _ (print_failed loaded s to texts ran is_output rose follows calls_made) = had_fault (inr (inl rose))
+has_cause words files loads prints printed calls _ _ (out_of_memory q loaded asks loading steady same calls_made) = had_no_memory (record { request = q; asks = asks })
 
 -- ---- the machine that the words ask for is one
 
 pub one_asked : (words : List (List ℕ)) (file_at : Files) (w w' : Config) → IsAskedFor words (Some file_at) w → IsAskedFor words (Some file_at) w' → w ≡ w'
 one_asked words file_at w w' a b =
     let request : a.request ≡ b.request = one_request words a.request b.request a.asked b.asked in
-    let bytes : a.bytes ≡ b.bytes = some_injective _ _ (sym a.given.told ∙ ap (λ (q : Request). file_at q.name) request ∙ b.given.told) in
-    let image : w.image ≡ w'.image = a.image ∙ ap image_of bytes ∙ sym b.image in
-    let simple = b.is_machine.simple in
-    let top : w.top ≡ w'.top = one_machine b.request.clusters b.request.harts b.request.budget w.top w'.top (subst (λ (q : Request). IsSimple q.clusters q.harts q.budget w.top) request a.is_machine.simple) simple in
+    let for_request : Request → Type 0 = λ q. AreGiven (Some file_at) q a.inputs in
+    let inputs : a.inputs ≡ b.inputs =
+    one_inputs (IsGiven (Some file_at)) (IsGiven (Some file_at)) (λ file x y first second. some_injective x y (sym first.told ∙ second.told)) b.request a.inputs b.inputs (subst for_request request a.given) b.given in
+    let image : w.image ≡ w'.image = a.image ∙ ap (λ (i : Inputs). image_of i.image) inputs ∙ sym b.image in
+    let top : w.top ≡ w'.top =
+    one_topology b.inputs.source w.top w'.top (subst (λ (i : Inputs). IsTopologyOf i.source w.top) inputs a.is_machine.topology) b.is_machine.topology in
     λ i. record { image = image i; top = top i }

@@ -1,10 +1,11 @@
--- The machine that is asked for is one.
-use Rattle.std.proofs.Common.{◌*◌, ◌/◌, ◌+◌, ◌%◌, ◌≤◌, ◌≡◌, ℕ, sym, ◌∙◌}
+-- The topology of sizes is one.
+use Rattle.std.proofs.Common.{◌*◌, ◌/◌, ◌+◌, ◌%◌, ◌≤◌, ◌≡◌, sym, ◌∙◌}
 use mathlib.Core.HLevel.{is_prop→PathP}
 use Rattle.std.proofs.Props.{props}
 use Rattle.std.specs.Int.{IsPowerOfTwo}
 use Rattle.dash_base.specs.Bounds.{IsBetween}
-use Rattle.dash_base.specs.Topology.{IsSimple}
+use Rattle.dash_base.specs.Topology.{HasSizes}
+use Rattle.dash_base.specs.declared.sizes.Sizes.{Sizes}
 use Rattle.dash_base.specs.declared.topology.Topology.{Topology}
 
 -- two topologies with the same keys are one: their bounds are facts with one proof
@@ -44,10 +45,10 @@ same_topology a b clusters harts budget memory locks base l2 l1 buffer acks pref
   work_in_range = is_prop→PathP (λ j. clusters j * harts j * budget j ≤ 2000000) (λ j. hlevel props) a.work_in_range b.work_in_range i;
 }
 
--- the machine that is asked for is one
-pub one_machine : (clusters harts budget : ℕ) (a b : Topology) → IsSimple clusters harts budget a → IsSimple clusters harts budget b → a ≡ b
-one_machine clusters harts budget a b s u =
+-- the topology of sizes is one
+pub one_of_sizes : (s : Sizes) (a b : Topology) → HasSizes s a → HasSizes s b → a ≡ b
+one_of_sizes s a b first second =
     same_topology a b
-    (s.clusters_is ∙ sym u.clusters_is) (s.harts_is ∙ sym u.harts_is) (s.budget_is ∙ sym u.budget_is) (s.memory_is ∙ sym u.memory_is)
-    (s.locks_is ∙ sym u.locks_is) (s.base_is ∙ sym u.base_is) (s.l2_is ∙ sym u.l2_is) (s.l1_is ∙ sym u.l1_is)
-    (s.buffer_is ∙ sym u.buffer_is) (s.acks_is ∙ sym u.acks_is) (s.prefetch_is ∙ sym u.prefetch_is) (s.stack_is ∙ sym u.stack_is)
+    (first.clusters_is ∙ sym second.clusters_is) (first.harts_is ∙ sym second.harts_is) (first.budget_is ∙ sym second.budget_is) (first.memory_is ∙ sym second.memory_is)
+    (first.locks_is ∙ sym second.locks_is) (first.base_is ∙ sym second.base_is) (first.l2_is ∙ sym second.l2_is) (first.l1_is ∙ sym second.l1_is)
+    (first.buffer_is ∙ sym second.buffer_is) (first.acks_is ∙ sym second.acks_is) (first.prefetch_is ∙ sym second.prefetch_is) (first.stack_is ∙ sym second.stack_is)

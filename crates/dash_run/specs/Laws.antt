@@ -1,5 +1,5 @@
 -- Laws of reports. Each is the contract of a function of `laws`.
-use Rattle.std.specs.Prelude.{◌≡◌, ℕ, ◌<◌, true, Some, List, [], map}
+use Rattle.std.specs.Prelude.{◌≡◌, ℕ, ◌<◌, Bool, true, Some, List, [], map}
 use Rattle.dash_base.specs.Outside.{Files}
 use Rattle.dash_base.specs.declared.end.End.TheVariants.{Running}
 use Rattle.dash_event.specs.declared.event.Event.{Event}
@@ -10,7 +10,7 @@ use Rattle.dash_model.specs.Machine.{Machine, Reaches}
 use Rattle.dash_model.specs.Complete.{IsComplete, IsCompleteRun, IsWaiting}
 use Rattle.trace_text.specs.LogText.{log_text}
 use Rattle.trace_text.specs.Reading.{IsTextOf}
-use Rattle.dash_run.specs.CommandLine.{Request}
+use Rattle.dash_run.specs.Inputs.{Inputs}
 use Rattle.dash_run.specs.Outcome.{IsReported}
 use Rattle.dash_run.specs.Ran.{Ran}
 use Rattle.dash_run.specs.Report.{hart_of}
@@ -34,11 +34,11 @@ HartsThatAreLeftWait =
 abbrev pub CompleteRunsAreNotEmpty : Type 0
 CompleteRunsAreNotEmpty = (w : Config) → IsCompleteRun w [] → ⊥
 
--- a log has one report: whatever else two calls for a request and the bytes of an image's file left, where their logs are one, so are exit status and report
+-- a log has one report: whatever else two calls for an image's bytes and a machine left, where their logs are one, so are exit status and report
 abbrev pub OneReport : Type 0
 OneReport =
-    (q : Request) (bytes : List ℕ) (status status' : ℕ) (texts texts' : List (List ℕ)) (ran ran' : Ran)
-    → IsReported q bytes status texts ran → IsReported q bytes status' texts' ran' → ran.log ≡ ran'.log → (status ≡ status') × (texts ≡ texts')
+    (with_log : Bool) (inputs : Inputs) (status status' : ℕ) (texts texts' : List (List ℕ)) (ran ran' : Ran)
+    → IsReported with_log inputs status texts ran → IsReported with_log inputs status' texts' ran' → ran.log ≡ ran'.log → (status ≡ status') × (texts ≡ texts')
 
 -- where the host tells its files, the words ask for one machine
 abbrev pub OneMachine : Type 0
@@ -47,5 +47,5 @@ OneMachine = (words : List (List ℕ)) (file_at : Files) (w w' : Config) → IsA
 -- what is read of the log section of a report is the log of its run
 abbrev pub PrintedLogsAreReadBack : Type 0
 PrintedLogsAreReadBack =
-    (q : Request) (bytes : List ℕ) (status : ℕ) (texts : List (List ℕ)) (ran : Ran)
-    → IsReported q bytes status texts ran → q.log ≡ true → (read : List Event) → IsTextOf (log_text ran.log) read → read ≡ ran.log
+    (inputs : Inputs) (status : ℕ) (texts : List (List ℕ)) (ran : Ran)
+    → IsReported true inputs status texts ran → (read : List Event) → IsTextOf (log_text ran.log) read → read ≡ ran.log

@@ -1,4 +1,6 @@
 pub mod CommandLine
+pub mod Inputs
+pub mod Accepted
 pub mod Ran
 pub mod Units
 pub mod Report

@@ -1,15 +1,13 @@
 -- The output of a call of the program, and how it may end.
-use Rattle.std.specs.Prelude.{◌≡◌, ℕ, Bool, true, ◌<◌, ◌≤◌, ◌⊎◌, List, [], ◌∷◌, ◌++◌, length, map, fold, codes, decimal, Option, Some, None, IfSome, IsSomeAnd}
-use Rattle.dash_base.specs.Outside.{Files, Printed, Appends, AppendsPart, Follows, Rose, last_count, Call, load_of, print_on, failed_print_on, with_calls}
+use Rattle.std.specs.Prelude.{◌≡◌, ℕ, Bool, true, ◌<◌, ◌⊎◌, List, [], ◌∷◌, ◌++◌, map, fold, codes, decimal, Option, Some}
+use Rattle.dash_base.specs.Outside.{Files, Printed, Appends, AppendsPart, Follows, Rose, last_count, Call, print_on, failed_print_on, with_calls}
 use Rattle.dash_base.specs.Names.{key_name}
-use Rattle.dash_base.specs.Topology.{IsSimple, simple_refusal}
 use Rattle.dash_base.specs.declared.host.Stream.{Stream}
 use Rattle.dash_base.specs.declared.host.Stream.TheVariants as stream
 use Rattle.dash_base.specs.declared.topology.Topology.{Topology}
 use Rattle.dash_base.specs.declared.topology.TopoRefusal.{TopoRefusal}
 use Rattle.dash_base.specs.declared.topology.TopoRefusal.TheVariants as topo
-use Rattle.elf_load.specs.Loader.{image_of}
-use Rattle.elf_load.specs.Refusal.{IsFirstRefusal, IsLoadable}
+use Rattle.elf_load.specs.Refusal.{IsLoadable}
 use Rattle.elf_load.specs.declared.memory_map.MemoryMap.{MemoryMap}
 use Rattle.elf_load.specs.declared.refusal.LoadRefusal.{LoadRefusal}
 use Rattle.elf_load.specs.declared.refusal.LoadRefusal.TheVariants.{Short, NotElf, NotClass32Little, NotRiscv, NotExec, Compressed, Reduced, HeaderSize, SegmentOutOfFile, FileSizeAboveMemory, SegmentOutOfMemory, Overlap, NoSegment, EntryNotExecutable, OutOfMemory}
@@ -19,13 +17,11 @@ use Rattle.dash_model.specs.Config.{Config}
 use Rattle.std.specs.List.{AllByRecursion}
 use Rattle.trace_text.specs.Fits.{FitsEvent}
 use Rattle.dash_run.specs.CommandLine.{Request, Asks, IsUsageError}
+use Rattle.dash_run.specs.Inputs.{NamedFile, IsFileOf, Inputs, IsTooLarge, AreGiven, AreThere, loads_of, IsReached, IsLoading}
+use Rattle.dash_run.specs.Accepted.{IsMachine, IsRefusedTopology, IsRefused, config_of}
 use Rattle.dash_run.specs.Ran.{Ran, no_run, itself}
 use Rattle.dash_run.specs.Report.{report_of}
 use Rattle.trace_text.specs.Spelling.{newline, hex}
-
--- an image file has at most so many bytes
-abbrev pub image_limit : ℕ
-image_limit = 33554432
 
 -- the lines on standard error
 unfoldable pub usage_line : List ℕ
@@ -35,9 +31,9 @@ usage_line =
 unfoldable pub failed_line : List ℕ → List ℕ
 failed_line name = codes "dash: " ++ (name ++ (codes ": read failed" ++ newline))
 
-unfoldable pub large_line : List ℕ → ℕ → List ℕ
-large_line name size =
-    codes "dash: " ++ (name ++ (codes ": " ++ (decimal size ++ (codes " bytes, limit " ++ (decimal image_limit ++ newline)))))
+unfoldable pub large_line : NamedFile → ℕ → List ℕ
+large_line file size =
+    codes "dash: " ++ (file.name ++ (codes ": " ++ (decimal size ++ (codes " bytes, limit " ++ (decimal file.limit ++ newline)))))
 
 abbrev pub topology_text : TopoRefusal → List ℕ
 topology_text topo.Syntax = codes "syntax"
@@ -72,74 +68,46 @@ refusal_text OutOfMemory = []
 unfoldable pub refusal_line : LoadRefusal → List ℕ
 refusal_line refusal = codes "dash: image: " ++ refusal_text refusal ++ newline
 
--- the topology that is asked for is refused, for this cause
-pub record IsRefusedTopology (q : Request) (refusal : TopoRefusal) : Type 0 where
-  pub refused : simple_refusal q.clusters q.harts q.budget ≡ Some refusal
-
--- the machine that is asked for, and the range of its memory
-pub record IsMachine (q : Request) (t : Topology) (map : MemoryMap) : Type 0 where
-  pub simple : IsSimple q.clusters q.harts q.budget t
-  pub accepted : simple_refusal q.clusters q.harts q.budget ≡ None
-  pub base : map.base ≡ t.base
-  pub size : map.size ≡ t.memory
-
--- the topology is accepted, and an image with these bytes refused, for this cause
-pub record IsRefused (q : Request) (bytes : List ℕ) (refusal : LoadRefusal) : Type 0 where
-  pub machine : Topology
-  pub map : MemoryMap
-  pub is_machine : IsMachine q machine map
-  pub refused : IsFirstRefusal bytes map refusal
-
--- what a run is of: the image of a file, on a topology
-abbrev pub config_of : List ℕ → Topology → Config
-config_of bytes t = record { image = image_of bytes; top = t }
-
 -- a run of machine w ended, for this cause
 pub record IsRunOf (w : Config) (ran : Ran) (cause : Cause) : Type 0 where
   pub waits : List Bool
   pub finished : IsFinished itself w ran.log ran.units ran.rounds waits cause
 
--- the topology and an image with these bytes are accepted, and a run of it ended with this exit status and report; the numbers of a log that is printed are within the bounds of their types
-pub record IsReported (q : Request) (bytes : List ℕ) (status : ℕ) (texts : List (List ℕ)) (ran : Ran) : Type 0 where
+-- the topology and the image of inputs are accepted, and a run of it ended with this exit status and report, with the log or without it; the numbers of a log that is printed are within the bounds of their types
+pub record IsReported (with_log : Bool) (inputs : Inputs) (status : ℕ) (texts : List (List ℕ)) (ran : Ran) : Type 0 where
   pub machine : Topology
   pub map : MemoryMap
-  pub is_machine : IsMachine q machine map
-  pub accepted : IsLoadable bytes map
+  pub is_machine : IsMachine inputs machine map
+  pub accepted : IsLoadable inputs.image map
   pub cause : Cause
-  pub run : IsRunOf (config_of bytes machine) ran cause
+  pub run : IsRunOf (config_of inputs.image machine) ran cause
   pub is_status : status ≡ status_of cause
-  pub is_report : texts ≡ report_of q.log (config_of bytes machine) run.finished.end status ran.log
-  pub log_fits : q.log ≡ true → AllByRecursion FitsEvent ran.log
+  pub is_report : texts ≡ report_of with_log (config_of inputs.image machine) run.finished.end status ran.log
+  pub log_fits : with_log ≡ true → AllByRecursion FitsEvent ran.log
 
--- the image's file is within the limit, and has these bytes where files are told
-pub record IsGiven (files : Option Files) (name bytes : List ℕ) : Type 0 where
-  pub small : length bytes ≤ image_limit
-  pub told : IfSome files (λ file_at. file_at name ≡ Some bytes)
+-- the line for a file that the host did not give. The counts are the host's failed loads, before and after.
+pub data IsFaultLine (files : Option Files) (before after : ℕ) (file : NamedFile) : List ℕ → Type 0 where
+  -- it couldn't be read
+  failed : Rose before after → IsFaultLine files before after file (failed_line file.name)
+  -- it is larger than its limit
+  large : (size : ℕ) → IsTooLarge files file size → after ≡ before → IsFaultLine files before after file (large_line file size)
 
--- it is larger than the limit
-pub record IsTooLarge (files : Option Files) (name : List ℕ) (size : ℕ) : Type 0 where
-  pub large : image_limit < size
-  pub told : IfSome files (λ file_at. IsSomeAnd (file_at name) (λ bytes. length bytes ≡ size))
-
--- The output of a call, an exit status, texts on one stream, each for a print, and what is left of a run, and why. The counts are the host's failed loads, before and after.
-pub data IsOutput (words : List (List ℕ)) (files : Option Files) (before after : ℕ) : ℕ → Stream → List (List ℕ) → Ran → Type 0 where
+-- The output of a call: the loads that were made, an exit status, texts on one stream, each for a print, and what is left of a run, and why. The counts are the host's failed loads, before and after.
+pub data IsOutput (words : List (List ℕ)) (files : Option Files) (before after : ℕ) : List Call → ℕ → Stream → List (List ℕ) → Ran → Type 0 where
   -- the words have no form that is served
-  usage : IsUsageError words → after ≡ before → IsOutput words files before after 2 stream.Err (usage_line ∷ []) no_run
-  -- the image's file couldn't be read
-  failed : (q : Request) → Asks words q → Rose before after
-      → IsOutput words files before after 5 stream.Err (failed_line q.name ∷ []) no_run
-  -- it is larger than the limit
-  large : (q : Request) (size : ℕ) → Asks words q → IsTooLarge files q.name size → after ≡ before
-      → IsOutput words files before after 5 stream.Err (large_line q.name size ∷ []) no_run
+  usage : IsUsageError words → after ≡ before → IsOutput words files before after [] 2 stream.Err (usage_line ∷ []) no_run
+  -- a file was not given, and none behind it was asked for
+  no_file : (q : Request) (file : NamedFile) (loaded : List Call) (text : List ℕ) → Asks words q → IsReached files q file loaded → IsFaultLine files before after file text
+      → IsOutput words files before after loaded 5 stream.Err (text ∷ []) no_run
   -- the topology is refused
-  bad_topology : (q : Request) (bytes : List ℕ) (refusal : TopoRefusal) → Asks words q → IsGiven files q.name bytes → IsRefusedTopology q refusal → after ≡ before
-      → IsOutput words files before after 4 stream.Err (topology_line refusal ∷ []) no_run
+  bad_topology : (q : Request) (inputs : Inputs) (refusal : TopoRefusal) → Asks words q → AreGiven files q inputs → IsRefusedTopology inputs refusal → after ≡ before
+      → IsOutput words files before after (loads_of q) 4 stream.Err (topology_line refusal ∷ []) no_run
   -- the image is refused
-  refused : (q : Request) (bytes : List ℕ) (refusal : LoadRefusal) → Asks words q → IsGiven files q.name bytes → IsRefused q bytes refusal → after ≡ before
-      → IsOutput words files before after 3 stream.Err (refusal_line refusal ∷ []) no_run
+  refused : (q : Request) (inputs : Inputs) (refusal : LoadRefusal) → Asks words q → AreGiven files q inputs → IsRefused inputs refusal → after ≡ before
+      → IsOutput words files before after (loads_of q) 3 stream.Err (refusal_line refusal ∷ []) no_run
   -- its run is reported
-  reported : (q : Request) (bytes : List ℕ) (status : ℕ) (texts : List (List ℕ)) (ran : Ran) → Asks words q → IsGiven files q.name bytes → IsReported q bytes status texts ran → after ≡ before
-      → IsOutput words files before after status stream.Out texts ran
+  reported : (q : Request) (inputs : Inputs) (status : ℕ) (texts : List (List ℕ)) (ran : Ran) → Asks words q → AreGiven files q inputs → IsReported q.log inputs status texts ran → after ≡ before
+      → IsOutput words files before after (loads_of q) status stream.Out texts ran
 
 -- a count of a host's faults, what it had printed, or the calls that were made of it, before a call and after it
 pub record Change (A : Type 0) : Type 0 where
@@ -150,15 +118,13 @@ pub record Change (A : Type 0) : Type 0 where
 abbrev pub joined : List (List ℕ) → List ℕ
 joined texts = fold ◌++◌ [] texts
 
--- the loads that a call makes: that of the image, where the words name one
+-- the loads that a call makes: none for words without a form, else that of the image, or of all files
 pub data LoadsOf (words : List (List ℕ)) : List Call → Type 0 where
   no_load : IsUsageError words → LoadsOf words []
-  one_load : (q : Request) → Asks words q → LoadsOf words (load_of q.name ∷ [])
+  some_loads : (q : Request) (loaded : List Call) → Asks words q → IsLoading q loaded → LoadsOf words loaded
 
 -- the host's calls were the loads and then a print of each text
-pub record PrintsAll (words : List (List ℕ)) (to : Stream) (texts : List (List ℕ)) (calls : Change (Option (List Call))) : Type 0 where
-  pub loaded : List Call
-  pub are_loads : LoadsOf words loaded
+pub record PrintsAll (loaded : List Call) (to : Stream) (texts : List (List ℕ)) (calls : Change (Option (List Call))) : Type 0 where
   pub made : calls.new ≡ with_calls calls.old (loaded ++ map (print_on to) texts)
 
 -- prints of the texts that stand before one, and last a print of that one, which failed
@@ -170,9 +136,7 @@ pub record BreakOff (to : Stream) (texts : List (List ℕ)) (made : List Call) :
   pub made_is : made ≡ map (print_on to) before ++ failed_print_on to text ∷ []
 
 -- the host's calls were the loads and then prints that broke off: nothing came after the one that failed
-pub record PrintsPart (words : List (List ℕ)) (to : Stream) (texts : List (List ℕ)) (calls : Change (Option (List Call))) : Type 0 where
-  pub loaded : List Call
-  pub are_loads : LoadsOf words loaded
+pub record PrintsPart (loaded : List Call) (to : Stream) (texts : List (List ℕ)) (calls : Change (Option (List Call))) : Type 0 where
   pub tried : List Call
   pub breaks_off : BreakOff to texts tried
   pub made : calls.new ≡ with_calls calls.old (loaded ++ tried)
@@ -180,57 +144,54 @@ pub record PrintsPart (words : List (List ℕ)) (to : Stream) (texts : List (Lis
 -- how a call ended, with an exit status and what it left of a run
 pub data Ends (words : List (List ℕ)) (files : Option Files) (loads prints : Change ℕ) (printed : Change (Option Printed)) (calls : Change (Option (List Call))) : ℕ → Ran → Type 0 where
   -- it printed its whole output
-  printed_all : (status : ℕ) (to : Stream) (texts : List (List ℕ)) (ran : Ran) → IsOutput words files loads.old loads.new status to texts ran
-      → prints.new ≡ prints.old → Follows (Appends to (joined texts)) printed.old printed.new → PrintsAll words to texts calls → Ends words files loads prints printed calls status ran
+  printed_all : (loaded : List Call) (status : ℕ) (to : Stream) (texts : List (List ℕ)) (ran : Ran) → IsOutput words files loads.old loads.new loaded status to texts ran
+      → prints.new ≡ prints.old → Follows (Appends to (joined texts)) printed.old printed.new → PrintsAll loaded to texts calls → Ends words files loads prints printed calls status ran
   -- a print failed, after a part of it
-  print_failed : (status : ℕ) (to : Stream) (texts : List (List ℕ)) (ran : Ran) → IsOutput words files loads.old loads.new status to texts ran
-      → Rose prints.old prints.new → Follows (AppendsPart to (joined texts)) printed.old printed.new → PrintsPart words to texts calls → Ends words files loads prints printed calls 5 ran
+  print_failed : (loaded : List Call) (status : ℕ) (to : Stream) (texts : List (List ℕ)) (ran : Ran) → IsOutput words files loads.old loads.new loaded status to texts ran
+      → Rose prints.old prints.new → Follows (AppendsPart to (joined texts)) printed.old printed.new → PrintsPart loaded to texts calls → Ends words files loads prints printed calls 5 ran
   -- there was no memory: it printed nothing
-  out_of_memory : (q : Request) → Asks words q
-      → prints.new ≡ prints.old → printed.new ≡ printed.old → calls.new ≡ with_calls calls.old (load_of q.name ∷ []) → Ends words files loads prints printed calls 6 no_run
+  out_of_memory : (q : Request) (loaded : List Call) → Asks words q → IsLoading q loaded
+      → prints.new ≡ prints.old → printed.new ≡ printed.old → calls.new ≡ with_calls calls.old loaded → Ends words files loads prints printed calls 6 no_run
 
 -- the exit statuses of a run
 abbrev pub IsRunStatus : ℕ → Type 0
 IsRunStatus status = (status ≡ 0) ⊎ (status ≡ 10) ⊎ (status ≡ 11) ⊎ (status ≡ 12)
 
--- the topology that is asked for is accepted, and no refusal applies to an image with these bytes
-pub record IsAccepted (q : Request) (bytes : List ℕ) : Type 0 where
-  pub topology : (refusal : TopoRefusal) → IsRefusedTopology q refusal → ⊥
-  pub image : (refusal : LoadRefusal) → IsRefused q bytes refusal → ⊥
-
 -- the words ask for a topology that is refused
 pub record NamesBadTopology (words : List (List ℕ)) (files : Option Files) : Type 0 where
   pub request : Request
   pub asked : Asks words request
-  pub bytes : List ℕ
-  pub given : IsGiven files request.name bytes
+  pub inputs : Inputs
+  pub given : AreGiven files request inputs
   pub refusal : TopoRefusal
-  pub refused : IsRefusedTopology request refusal
+  pub refused : IsRefusedTopology inputs refusal
 
 -- the words ask for an image that is refused
 pub record NamesRefused (words : List (List ℕ)) (files : Option Files) : Type 0 where
   pub request : Request
   pub asked : Asks words request
-  pub bytes : List ℕ
-  pub given : IsGiven files request.name bytes
+  pub inputs : Inputs
+  pub given : AreGiven files request inputs
   pub refusal : LoadRefusal
-  pub refused : IsRefused request bytes refusal
+  pub refused : IsRefused inputs refusal
 
 -- the words ask for a run that ends with this status, and leaves this
 pub record NamesRun (words : List (List ℕ)) (files : Option Files) (status : ℕ) (ran : Ran) : Type 0 where
   pub request : Request
   pub asked : Asks words request
-  pub bytes : List ℕ
-  pub given : IsGiven files request.name bytes
+  pub inputs : Inputs
+  pub given : AreGiven files request inputs
   pub texts : List (List ℕ)
-  pub reported : IsReported request bytes status texts ran
+  pub reported : IsReported request.log inputs status texts ran
 
--- the words ask for an image that is larger than the limit
+-- the words name a file that is larger than its limit
 pub record NamesLarge (words : List (List ℕ)) (files : Option Files) : Type 0 where
   pub request : Request
   pub asked : Asks words request
+  pub file : NamedFile
+  pub named : IsFileOf request file
   pub size : ℕ
-  pub large : IsTooLarge files request.name size
+  pub large : IsTooLarge files file size
 
 -- the causes of status 5
 abbrev pub IsFault : List (List ℕ) → Option Files → Change ℕ → Change ℕ → Type 0
@@ -241,11 +202,15 @@ pub record IsSteady (count : Change ℕ) : Type 0 where
   pub same : count.new ≡ count.old
   pub below : count.old < last_count
 
--- a call in which no fault was counted, which asks for an image with these bytes, where the host tells its files
-pub record IsClean (words : List (List ℕ)) (files : Option Files) (loads prints : Change ℕ) (q : Request) (bytes : List ℕ) : Type 0 where
+-- a call for a request, in which no fault was counted, of a host that tells its files
+pub record IsFaultless (words : List (List ℕ)) (files : Option Files) (loads prints : Change ℕ) (q : Request) (file_at : Files) : Type 0 where
   pub asked : Asks words q
-  pub file_at : Files
   pub told : files ≡ Some file_at
-  pub there : file_at q.name ≡ Some bytes
   pub loads_steady : IsSteady loads
   pub prints_steady : IsSteady prints
+
+-- such a call, and these inputs are there
+pub record IsClean (words : List (List ℕ)) (files : Option Files) (loads prints : Change ℕ) (q : Request) (inputs : Inputs) : Type 0 where
+  pub file_at : Files
+  pub faultless : IsFaultless words files loads prints q file_at
+  pub there : AreThere file_at q inputs

@@ -1,6 +1,6 @@
 -- What follows of a call of the program from how it ended: the cause of each status, the status of each cause, and the calls of the host. Each is the contract of a function of `laws`.
-use Rattle.std.specs.Prelude.{◌≡◌, ℕ, ◌<◌, ◌≤◌, ◌⊎◌, List, [], ◌∷◌, length, map, Option, Some}
-use Rattle.dash_base.specs.Outside.{Files, Printed, Rose, Call, load_of, print_on, with_calls}
+use Rattle.std.specs.Prelude.{◌≡◌, ℕ, ◌<◌, ◌⊎◌, List, [], ◌∷◌, ◌++◌, length, map, Option, Some}
+use Rattle.dash_base.specs.Outside.{Files, Printed, Rose, Call, print_on, with_calls}
 use Rattle.dash_base.specs.declared.host.Stream.{Stream}
 use Rattle.dash_base.specs.declared.host.Stream.TheVariants as stream
 use Rattle.dash_base.specs.declared.topology.TopoRefusal.{TopoRefusal}
@@ -8,7 +8,9 @@ use Rattle.elf_load.specs.declared.refusal.LoadRefusal.{LoadRefusal}
 use Rattle.dash_run.specs.CommandLine.{Request, Asks, IsUsageError}
 use Rattle.dash_run.specs.Ran.{Ran}
 use Rattle.dash_run.specs.Theorem.{MadeRun}
-use Rattle.dash_run.specs.Outcome.{Ends, Change, PrintsPart, IsGiven, IsReported, IsRefusedTopology, IsRefused, IsAccepted, IsRunStatus, IsFault, IsSteady, IsClean, NamesBadTopology, NamesRefused, NamesRun, usage_line, image_limit}
+use Rattle.dash_run.specs.Inputs.{NamedFile, IsFileOf, Inputs, AreGiven, AreThere, AreSmall, loads_of}
+use Rattle.dash_run.specs.Accepted.{IsRefusedTopology, IsRefused, IsAccepted}
+use Rattle.dash_run.specs.Outcome.{Ends, Change, LoadsOf, PrintsPart, IsReported, IsRunStatus, IsFault, IsSteady, IsFaultless, IsClean, NamesBadTopology, NamesRefused, NamesRun, usage_line}
 
 -- a call of the program: its words, what its host told before and after, its status and what it left of a run, and the clause `outcome`
 pub record TopCall : Type 0 where
@@ -22,9 +24,13 @@ pub record TopCall : Type 0 where
   pub ran : Ran
   pub ends : Ends words files loads prints printed calls status ran
 
--- no fault was counted in a call that asks for an image with these bytes, which the host tells
-abbrev pub IsCleanCall : TopCall → Request → List ℕ → Type 0
-IsCleanCall c q bytes = IsClean c.words c.files c.loads c.prints q bytes
+-- no fault was counted in a call for a request, whose host tells its files
+abbrev pub IsFaultlessCall : TopCall → Request → Files → Type 0
+IsFaultlessCall c q file_at = IsFaultless c.words c.files c.loads c.prints q file_at
+
+-- and these inputs are there
+abbrev pub IsCleanCall : TopCall → Request → Inputs → Type 0
+IsCleanCall c q inputs = IsClean c.words c.files c.loads c.prints q inputs
 
 -- ---- the cause of each status
 
@@ -40,7 +46,7 @@ RefusalHasCause = (c : TopCall) → c.status ≡ 3 → NamesRefused c.words c.fi
 abbrev pub BadTopologyHasCause : Type 0
 BadTopologyHasCause = (c : TopCall) → c.status ≡ 4 → NamesBadTopology c.words c.files
 
--- status 5 comes only where a count of faults rose, or for a file above the limit
+-- status 5 comes only where a count of faults rose, or for a file above its limit
 abbrev pub FaultHasCause : Type 0
 FaultHasCause = (c : TopCall) → c.status ≡ 5 → IsFault c.words c.files c.loads c.prints
 
@@ -66,62 +72,66 @@ FailedLoadIsFault = (c : TopCall) → c.loads.old < c.loads.new → (c.status �
 abbrev pub FailedPrintIsFault : Type 0
 FailedPrintIsFault = (c : TopCall) → c.prints.old < c.prints.new → c.status ≡ 5
 
--- where no fault was counted, a file above the limit gives status 5 or 6
+-- where no fault was counted, a file above its limit gives status 5 or 6
 abbrev pub LargeFileIsFault : Type 0
-LargeFileIsFault = (c : TopCall) (q : Request) (bytes : List ℕ) → IsCleanCall c q bytes → image_limit < length bytes → (c.status ≡ 5) ⊎ (c.status ≡ 6)
+LargeFileIsFault =
+    (c : TopCall) (q : Request) (file_at : Files) (file : NamedFile) (bytes : List ℕ) → IsFaultlessCall c q file_at → IsFileOf q file
+    → file_at file.name ≡ Some bytes → file.limit < length bytes → (c.status ≡ 5) ⊎ (c.status ≡ 6)
 
 -- else a topology that is refused gives status 4 or 6
 abbrev pub BadTopologyIsTold : Type 0
 BadTopologyIsTold =
-    (c : TopCall) (q : Request) (bytes : List ℕ) → IsCleanCall c q bytes → length bytes ≤ image_limit
-    → (refusal : TopoRefusal) → IsRefusedTopology q refusal → (c.status ≡ 4) ⊎ (c.status ≡ 6)
+    (c : TopCall) (q : Request) (inputs : Inputs) → IsCleanCall c q inputs → AreSmall q inputs
+    → (refusal : TopoRefusal) → IsRefusedTopology inputs refusal → (c.status ≡ 4) ⊎ (c.status ≡ 6)
 
 -- else an image that is refused gives status 3 or 6
 abbrev pub RefusalIsTold : Type 0
 RefusalIsTold =
-    (c : TopCall) (q : Request) (bytes : List ℕ) → IsCleanCall c q bytes → length bytes ≤ image_limit
-    → (refusal : LoadRefusal) → IsRefused q bytes refusal → (c.status ≡ 3) ⊎ (c.status ≡ 6)
+    (c : TopCall) (q : Request) (inputs : Inputs) → IsCleanCall c q inputs → AreSmall q inputs
+    → (refusal : LoadRefusal) → IsRefused inputs refusal → (c.status ≡ 3) ⊎ (c.status ≡ 6)
 
 -- else an image that is accepted gives the status of its run, or 6
 abbrev pub AcceptedImageRuns : Type 0
 AcceptedImageRuns =
-    (c : TopCall) (q : Request) (bytes : List ℕ) → IsCleanCall c q bytes → length bytes ≤ image_limit
-    → IsAccepted q bytes → IsRunStatus c.status ⊎ (c.status ≡ 6)
+    (c : TopCall) (q : Request) (inputs : Inputs) → IsCleanCall c q inputs → AreSmall q inputs
+    → IsAccepted inputs → IsRunStatus c.status ⊎ (c.status ≡ 6)
 
--- no load failed in a call that asks for an image with these bytes, which the host tells, and which are within the limit
-pub record IsLoaded (words : List (List ℕ)) (files : Option Files) (loads : Change ℕ) (q : Request) (bytes : List ℕ) : Type 0 where
+-- no load failed in a call for these inputs, which the host tells, and which are within the limits of their files
+pub record IsLoaded (words : List (List ℕ)) (files : Option Files) (loads : Change ℕ) (q : Request) (inputs : Inputs) : Type 0 where
   pub asked : Asks words q
   pub file_at : Files
   pub told : files ≡ Some file_at
-  pub there : file_at q.name ≡ Some bytes
+  pub there : AreThere file_at q inputs
   pub loads_steady : IsSteady loads
-  pub small : length bytes ≤ image_limit
+  pub small : AreSmall q inputs
 
--- where no load failed and the image is accepted, status 5 comes after a run, which is left: only its report could not be printed
+-- where no load failed and topology and image are accepted, status 5 comes after a run, which is left: only its report could not be printed
 abbrev pub FailedReportLeavesRun : Type 0
 FailedReportLeavesRun =
-    (c : TopCall) (q : Request) (bytes : List ℕ) → IsLoaded c.words c.files c.loads q bytes → IsAccepted q bytes → c.status ≡ 5
+    (c : TopCall) (q : Request) (inputs : Inputs) → IsLoaded c.words c.files c.loads q inputs → IsAccepted inputs → c.status ≡ 5
     → Rose c.prints.old c.prints.new × MadeRun c.status c.ran.log
 
 -- ---- the calls of the host
 
--- the host's calls were the load of the image and a print on standard output for each section of the run's report
+-- the host's calls were the loads of the files that the words name and a print on standard output for each section of the run's report
 pub record MakesRunCalls (words : List (List ℕ)) (files : Option Files) (calls : Change (Option (List Call))) (status : ℕ) (ran : Ran) : Type 0 where
   pub request : Request
   pub asked : Asks words request
-  pub bytes : List ℕ
-  pub given : IsGiven files request.name bytes
+  pub inputs : Inputs
+  pub given : AreGiven files request inputs
   pub texts : List (List ℕ)
-  pub reported : IsReported request bytes status texts ran
-  pub made : calls.new ≡ with_calls calls.old (load_of request.name ∷ map (print_on stream.Out) texts)
+  pub reported : IsReported request.log inputs status texts ran
+  pub made : calls.new ≡ with_calls calls.old (loads_of request ++ map (print_on stream.Out) texts)
 
 -- the last of the host's calls was a print that failed
 pub record StopsAtPrint (words : List (List ℕ)) (calls : Change (Option (List Call))) : Type 0 where
+  pub loaded : List Call
+  pub are_loads : LoadsOf words loaded
   pub to : Stream
   pub texts : List (List ℕ)
-  pub prints_part : PrintsPart words to texts calls
+  pub prints_part : PrintsPart loaded to texts calls
 
--- with the statuses of a run the calls were one load and a print of each section
+-- with the statuses of a run the calls were the load of each file and a print of each section
 abbrev pub RunsLoadAndPrint : Type 0
 RunsLoadAndPrint = (c : TopCall) → IsRunStatus c.status → MakesRunCalls c.words c.files c.calls c.status c.ran
 

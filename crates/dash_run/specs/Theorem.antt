@@ -18,22 +18,24 @@ use Rattle.round_run.specs.declared.finished.Cause.{Cause}
 use Rattle.dash_run.specs.CommandLine.{Request, Asks, IsAsked, IsUsageError}
 use Rattle.dash_run.specs.Ran.{Ran}
 use Rattle.dash_run.specs.Report.{report_of}
-use Rattle.dash_run.specs.Outcome.{Change, IsGiven, IsMachine, IsRunOf, IsRunStatus, IsFault, NamesBadTopology, NamesRefused, joined}
+use Rattle.dash_run.specs.Inputs.{Inputs, AreGiven}
+use Rattle.dash_run.specs.Accepted.{IsMachine}
+use Rattle.dash_run.specs.Outcome.{Change, IsRunOf, IsRunStatus, IsFault, NamesBadTopology, NamesRefused, joined}
 
 -- a call made a run: it ended with the status of a run, or left a log
 abbrev pub MadeRun : ℕ → List Event → Type 0
 MadeRun status log = IsRunStatus status ⊎ (log ≡ [] → ⊥)
 
--- the words ask for this machine: its topology is accepted, and so is its image, whose file is within the limit, and has these bytes where the host tells its files
+-- the words ask for this machine: its topology is accepted, and so is its image; the files that they name are within their limits, and have the bytes that the host tells, where it tells its files
 pub record IsAskedFor (words : List (List ℕ)) (files : Option Files) (w : Config) : Type 0 where
   pub request : Request
   pub asked : Asks words request
-  pub bytes : List ℕ
-  pub given : IsGiven files request.name bytes
+  pub inputs : Inputs
+  pub given : AreGiven files request inputs
   pub map : MemoryMap
-  pub is_machine : IsMachine request w.top map
-  pub accepted : IsLoadable bytes map
-  pub image : w.image ≡ image_of bytes
+  pub is_machine : IsMachine inputs w.top map
+  pub accepted : IsLoadable inputs.image map
+  pub image : w.image ≡ image_of inputs.image
 
 -- it is so of the machine that the words ask for
 pub record OfMachine (words : List (List ℕ)) (files : Option Files) (P : Config → Type 0) : Type 0 where

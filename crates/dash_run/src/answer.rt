@@ -1,19 +1,21 @@
-//! From a topology and the bytes of an image file to what is to be printed.
-ghost use Rattle.std.specs.Prelude.{◌≡◌, IfOk, map, vec_len, true, option_map, unwrap_or, ◌∷◌, []};
+//! From what the host gave for a request to what is to be printed.
+ghost use Rattle.std.specs.Prelude.{◌≡◌, IfOk, IfErr, map, vec_len, true, option_map, unwrap_or, ◌∷◌, []};
 ghost use Rattle.round_run.specs.Finished.{IsFinished, status_of};
 ghost use Rattle.std.specs.List.{AllByRecursion};
 ghost use Rattle.trace_text.specs.Fits.{FitsEvent};
 ghost use Rattle.dash_run.specs.Report.{log_sections};
-ghost use Rattle.dash_run.specs.Output.{IsAnswer, IsAnswerOn, IsReport};
+ghost use Rattle.dash_base.specs.declared.topology.TopoRefusal.TheVariants as topo;
+ghost use Rattle.dash_run.specs.Accepted.{IsTopologyOf, IsRefusedSource};
+ghost use Rattle.dash_run.specs.Output.{source_of, inputs_of, IsAnswer, IsAnswerOn, IsReport};
 
 use crate::access_text::access_section;
-use crate::command_line::Command;
+use crate::inputs::{Inputs, Source};
 use crate::lines;
 use crate::output::{Output, Prepared, Sections};
 use crate::report::{console_section, harts_section};
 use crate::run::Run;
 use arbiter::Arbiter;
-use dash_base::{OutOfMemory, Topology};
+use dash_base::{OutOfMemory, TopoRefusal, Topology};
 use dash_event::Event;
 use elf_load::{Image, LoadRefusal, MemoryMap, load};
 use round_run::{Cause, Finished, Gate, Machine, RunEnd, run_rounds};
@@ -23,22 +25,24 @@ use std::thread::Threads;
 use trace_merge::console;
 use trace_text::write_log;
 
-/// What is printed for an image file with these bytes: the refusal of the topology, or of the image, or
-/// the report of the run.
+/// What is printed for an image and a machine: the refusal of the topology, or of the image, or the
+/// report of the run.
 pub fn answer<R: Threads + Wait + Sync, G: Gate>(
     rt: &R,
     alloc: Global,
-    command: &Command<'_>,
-    bytes: Vec<u8>,
+    inputs: Inputs,
+    with_log: bool,
     gate: &G,
     arbiters: Vec<Box<dyn Arbiter + Send>>,
 ) -> Result<Prepared, OutOfMemory>
     requires { vec_len arbiters ≡ 16 }
-    ensures { IfOk result (λ a. IsAnswer (record { name = command.now.name.now; clusters = command.now.clusters; harts = command.now.harts; budget = command.now.budget; log = command.now.log }) bytes.items a.output
+    ensures { IfOk result (λ a. IsAnswer with_log (inputs_of inputs) a.output
         (record { log = a.run.log.items; units = map (λ u. record { core = u.core; turns = u.turns; steps = u.steps; ahead = u.ahead }) a.run.units.items; rounds = a.run.rounds })) }
 {
-    match Topology::simple(command.clusters, command.harts, command.budget) {
-        Ok(topology) => Ok(answer_on(rt, alloc, &topology, command.log, bytes, gate, arbiters)?),
+    let Inputs { image, source } = inputs;
+    match topology_of(alloc, &source) {
+        Ok(topology) => Ok(answer_on(rt, alloc, &topology, with_log, image, gate, arbiters)?),
+        Err(TopoRefusal::OutOfMemory) => Err(OutOfMemory),
         Err(refusal) => Ok(Prepared {
             output: Output::Line {
                 status: 4,
@@ -46,6 +50,21 @@ pub fn answer<R: Threads + Wait + Sync, G: Gate>(
             },
             run: Run::none(alloc),
         }),
+    }
+}
+
+/// The topology of a machine.
+fn topology_of(alloc: Global, source: &Source) -> Result<Topology, TopoRefusal>
+    ensures ok { IfOk result (IsTopologyOf (source_of source.now)) }
+    ensures refused { IfErr result (λ refusal. (refusal ≡ topo.OutOfMemory → ⊥) → IsRefusedSource (source_of source.now) refusal) }
+{
+    match source {
+        Source::Numbers {
+            clusters,
+            harts,
+            budget,
+        } => Topology::simple(*clusters, *harts, *budget),
+        Source::Text { bytes } => topology::read(alloc, bytes.as_slice()),
     }
 }
 

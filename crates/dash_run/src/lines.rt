@@ -1,15 +1,12 @@
 //! The lines on standard error.
 ghost use Rattle.std.specs.Prelude.{◌≡◌, ◌++◌, IfOk, OnOk, string_bytes};
 ghost use Rattle.dash_base.specs.Names.{key_name};
-ghost use Rattle.dash_run.specs.Outcome.{usage_line, failed_line, large_line, topology_line, topology_text, refusal_line, refusal_text, image_limit};
+ghost use Rattle.dash_run.specs.Outcome.{usage_line, failed_line, large_line, topology_line, topology_text, refusal_line, refusal_text};
 
 use dash_base::{Key, OutOfMemory, TopoRefusal};
 use elf_load::LoadRefusal;
 use std::alloc::Global;
 use std::fmt::Write;
-
-/// An image file has at most so many bytes.
-pub const IMAGE_LIMIT: u64 = 33_554_432;
 
 /// The usage line, with its newline.
 #[tactic(auto, unfolding(crate::specs::Outcome::usage_line))]
@@ -29,10 +26,9 @@ pub fn failed(alloc: Global, name: &str) -> Result<String, OutOfMemory>
 
 /// The line for a file above its limit.
 #[tactic(auto, unfolding(crate::specs::Outcome::large_line))]
-pub fn too_large(alloc: Global, name: &str, size: u64) -> Result<String, OutOfMemory>
-    ensures { IfOk result (λ text. string_bytes text ≡ large_line name.now size) }
+pub fn too_large(alloc: Global, name: &str, size: u64, limit: u64) -> Result<String, OutOfMemory>
+    ensures { IfOk result (λ text. string_bytes text ≡ large_line (record { name = name.now; limit = limit }) size) }
 {
-    let limit = IMAGE_LIMIT;
     Ok(format!(in alloc; "dash: {name}: {size} bytes, limit {limit}\n")?)
 }
 

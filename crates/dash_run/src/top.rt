@@ -2,19 +2,22 @@
 ghost use Rattle.std.specs.Prelude.{◌≡◌, ℕ, ◌≤◌, ◌⊎◌, ◌++◌, ◌∷◌, List, [], Bool, length, IfOk, IsTrue, OnErr, OnOk, map, string_bytes, vec_len};
 ghost use Rattle.dash_base.specs.declared.host.Stream.TheVariants as stream;
 ghost use Rattle.dash_base.specs.Outside.{Appends, AppendsPart, Follows, Rose, print_on, with_calls};
-ghost use Rattle.dash_run.specs.CommandLine.{Request, Asks, IsAsked};
-ghost use Rattle.dash_run.specs.Outcome.{IsOutput, Ends, IsAccepted, IsClean, IsRunStatus, image_limit, joined};
-ghost use Rattle.dash_run.specs.Output.{output_status, output_stream, output_texts, HasLoaded, HasTried};
+ghost use Rattle.dash_run.specs.CommandLine.{Request, Asks};
+ghost use Rattle.dash_run.specs.Inputs.{NamedFile, IsFileOf, Inputs, AreSmall};
+ghost use Rattle.dash_run.specs.Accepted.{IsAccepted};
+ghost use Rattle.dash_run.specs.Outcome.{Ends, IsClean, IsRunStatus, joined};
+ghost use Rattle.dash_run.specs.Output.{output_status, output_stream, output_texts, IsReady, IsShort, HasTried};
 ghost use Rattle.dash_run.specs.Theorem.{MadeRun, OfMachine, IsWholeRun, HasPrinted, IsOrdered, IsSequential, HasCause};
 
 use crate::answer::answer;
 use crate::command_line::read_words;
+use crate::files::{Loaded, load_inputs};
 use crate::lines;
 use crate::output::{Output, Prepared, Sections};
 use crate::run::Run;
 use arbiter::Arbiter;
 use cluster_unit::Unit;
-use dash_base::{Failed, Host, LoadFault, OutOfMemory, Stream};
+use dash_base::{Failed, Host, OutOfMemory, Stream};
 use dash_event::Event;
 use dash_model::laws::{runs_are_coherent, runs_keep_releases};
 use round_run::Gate;
@@ -38,10 +41,10 @@ pub struct Ended {
 
 /// The top call: does what the words ask for, and prints the report or the line.
 ///
-/// The host may be asked for the image that the words name, and for nothing else. Cluster c chooses by
+/// The host may be asked for the files that the words name, and for nothing else. Cluster c chooses by
 /// arbiter c. What follows from the clause `outcome` are the other clauses, and laws of the module
 /// `laws`: each status has its cause, each cause its status, and the host gets no other calls than the
-/// load of the image and the prints.
+/// loads of these files and the prints.
 pub fn dash<R: Threads + Wait + Sync, H: Host, G: Gate>(
     rt: &R,
     alloc: Global,
@@ -50,7 +53,7 @@ pub fn dash<R: Threads + Wait + Sync, H: Host, G: Gate>(
     gate: &G,
     arbiters: Vec<Box<dyn Arbiter + Send>>,
 ) -> Ended
-    requires names { (q : Request) → Asks (map string_bytes words.now) q → IsTrue (H.may_load host.old q.name) }
+    requires names { (q : Request) → Asks (map string_bytes words.now) q → (file : NamedFile) → IsFileOf q file → IsTrue (H.may_load host.old file.name) }
     requires arbiters { vec_len arbiters ≡ 16 }
     ensures outcome { Ends (map string_bytes words.now) (H.files host.old)
         (record { old = H.load_faults host.old; new = H.load_faults host.new })
@@ -84,10 +87,10 @@ pub fn dash<R: Threads + Wait + Sync, H: Host, G: Gate>(
         (record { old = H.print_faults host.old; new = H.print_faults host.new }) result.log.items result.status }
 
     // Where no fault was counted, an accepted image and topology give a run, or there was no memory.
-    ensures completeness { (q : Request) (bytes : List ℕ) → IsClean (map string_bytes words.now) (H.files host.old)
+    ensures completeness { (q : Request) (inputs : Inputs) → IsClean (map string_bytes words.now) (H.files host.old)
         (record { old = H.load_faults host.old; new = H.load_faults host.new })
-        (record { old = H.print_faults host.old; new = H.print_faults host.new }) q bytes
-        → length bytes ≤ image_limit → IsAccepted q bytes → IsRunStatus result.status ⊎ (result.status ≡ 6) }
+        (record { old = H.print_faults host.old; new = H.print_faults host.new }) q inputs
+        → AreSmall q inputs → IsAccepted inputs → IsRunStatus result.status ⊎ (result.status ≡ 6) }
 {
     runs_are_coherent();
     runs_keep_releases();
@@ -104,7 +107,7 @@ fn carry_out<R: Threads + Wait + Sync, H: Host, G: Gate>(
     gate: &G,
     arbiters: Vec<Box<dyn Arbiter + Send>>,
 ) -> Ended
-    requires names { (q : Request) → Asks (map string_bytes words.now) q → IsTrue (H.may_load host.old q.name) }
+    requires names { (q : Request) → Asks (map string_bytes words.now) q → (file : NamedFile) → IsFileOf q file → IsTrue (H.may_load host.old file.name) }
     requires arbiters { vec_len arbiters ≡ 16 }
     ensures outcome { Ends (map string_bytes words.now) (H.files host.old)
         (record { old = H.load_faults host.old; new = H.load_faults host.new })
@@ -125,7 +128,7 @@ fn carry_out<R: Threads + Wait + Sync, H: Host, G: Gate>(
     }
 }
 
-/// Loads the image that the words name, runs it, and makes what is to be printed.
+/// Loads the files that the words name, runs the image, and makes what is to be printed.
 fn prepare<R: Threads + Wait + Sync, H: Host, G: Gate>(
     rt: &R,
     alloc: Global,
@@ -134,14 +137,14 @@ fn prepare<R: Threads + Wait + Sync, H: Host, G: Gate>(
     gate: &G,
     arbiters: Vec<Box<dyn Arbiter + Send>>,
 ) -> Result<Prepared, OutOfMemory>
-    requires names { (q : Request) → Asks (map string_bytes words.now) q → IsTrue (H.may_load host.old q.name) }
+    requires names { (q : Request) → Asks (map string_bytes words.now) q → (file : NamedFile) → IsFileOf q file → IsTrue (H.may_load host.old file.name) }
     requires arbiters { vec_len arbiters ≡ 16 }
-    ensures is_output { IfOk result (λ a. IsOutput (map string_bytes words.now) (H.files host.old) (H.load_faults host.old) (H.load_faults host.new) (output_status a.output) (output_stream a.output) (output_texts a.output)
+    ensures ready { IfOk result (λ a. IsReady (map string_bytes words.now) (H.files host.old) (H.load_faults host.old) (H.load_faults host.new) (H.calls host.old) (H.calls host.new)
+        (output_status a.output) (output_stream a.output) (output_texts a.output)
         (record { log = a.run.log.items; units = map (λ u. record { core = u.core; turns = u.turns; steps = u.steps; ahead = u.ahead }) a.run.units.items; rounds = a.run.rounds })) }
-    ensures memory { OnErr result (IsAsked (map string_bytes words.now)) }
+    ensures memory { OnErr result (IsShort (map string_bytes words.now) (H.calls host.old) (H.calls host.new)) }
     ensures printed { H.printed host.new ≡ H.printed host.old }
     ensures print_faults { H.print_faults host.new ≡ H.print_faults host.old }
-    ensures calls { HasLoaded (map string_bytes words.now) (H.calls host.old) (H.calls host.new) }
 {
     let Some(command) = read_words(words) else {
         return Ok(Prepared {
@@ -149,23 +152,12 @@ fn prepare<R: Threads + Wait + Sync, H: Host, G: Gate>(
             run: Run::none(alloc),
         });
     };
-    match host.load(alloc, command.name, lines::IMAGE_LIMIT) {
-        Ok(bytes) => Ok(answer(rt, alloc, &command, bytes, gate, arbiters)?),
-        Err(LoadFault::TooLarge { size }) => Ok(Prepared {
-            output: Output::Line {
-                status: 5,
-                text: lines::too_large(alloc, command.name, size)?,
-            },
+    match load_inputs(alloc, host, &command)? {
+        Loaded::Given { inputs } => Ok(answer(rt, alloc, inputs, command.log, gate, arbiters)?),
+        Loaded::NotGiven { text } => Ok(Prepared {
+            output: Output::Line { status: 5, text },
             run: Run::none(alloc),
         }),
-        Err(LoadFault::Failed) => Ok(Prepared {
-            output: Output::Line {
-                status: 5,
-                text: lines::failed(alloc, command.name)?,
-            },
-            run: Run::none(alloc),
-        }),
-        Err(LoadFault::OutOfMemory) => Err(OutOfMemory),
     }
 }
 

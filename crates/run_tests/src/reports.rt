@@ -143,10 +143,15 @@ pub fn file(alloc: Global, words: &[u32]) -> Result<Vec<u8>, AllocError> {
     Ok(bytes)
 }
 
-/// A host with a file `a.elf`, some of whose calls fail.
+/// A topology of one cluster with two harts.
+static TWO_HARTS: &str = "clusters = 1\nharts = 2\nbudget = 100\n";
+
+/// A host with the files `a.elf` and `t.toml`, some of whose calls fail.
 fn host(alloc: Global, bytes: Vec<u8>, failing: &[u32]) -> Result<MemoryHost, Fail> {
     let mut files = BTreeMap::new(alloc);
     files.insert(String::from_str(alloc, "a.elf")?, bytes)?;
+    let topology = Vec::from_slice(alloc, TWO_HARTS.as_bytes())?;
+    files.insert(String::from_str(alloc, "t.toml")?, topology)?;
     Ok(MemoryHost::new(alloc, files, 10_000, Vec::from_slice(alloc, failing)?)?)
 }
 
@@ -191,7 +196,7 @@ fn each_run_gives_its_report(rt: HostRuntime) -> Result<(), Fail> {
     let alloc = rt.alloc();
     let ok = format!(in alloc; "{OK_CONSOLE}{OK_HARTS}{NO_ACCESSES}")?;
     let spin: &[u32] = &SPIN;
-    let cases: [(&[&str], &[u32], u8, &str, usize); 6] = [
+    let cases: [(&[&str], &[u32], u8, &str, usize); 7] = [
         (&["run", "a.elf"], &OK, 0, ok.as_str(), 8),
         (&["run", "a.elf"], &[0x0000_0073], 11, BAD_CALL, 1),
         (&["run", "a.elf"], spin, 10, SPENT, 1_000_000),
@@ -209,6 +214,7 @@ fn each_run_gives_its_report(rt: HostRuntime) -> Result<(), Fail> {
             LOCKED_REPORT,
             14,
         ),
+        (&["run", "a.elf", "t.toml"], &LOCKED, 0, LOCKED_REPORT, 14),
         (
             &["run", "a.elf", "1", "2", "100"],
             &KEPT,
@@ -247,7 +253,7 @@ fn each_refusal_gives_its_line_alone(rt: HostRuntime) -> Result<(), Fail> {
         }
         bytes
     };
-    let cases: [(&[&str], Vec<u8>, u8, &str); 13] = [
+    let cases: [(&[&str], Vec<u8>, u8, &str); 16] = [
         (&["run", "a.elf"], cut, 3, "dash: image: 1 short at 60\n"),
         (
             &["run", "a.elf"],
@@ -260,6 +266,24 @@ fn each_refusal_gives_its_line_alone(rt: HostRuntime) -> Result<(), Fail> {
             file(alloc, &OK)?,
             5,
             "dash: b.elf: read failed\n",
+        ),
+        (
+            &["run", "a.elf", "b.toml", "--log"],
+            file(alloc, &OK)?,
+            5,
+            "dash: b.toml: read failed\n",
+        ),
+        (
+            &["run", "b.elf", "b.toml"],
+            file(alloc, &OK)?,
+            5,
+            "dash: b.elf: read failed\n",
+        ),
+        (
+            &["run", "t.toml", "a.elf"],
+            file(alloc, &OK)?,
+            4,
+            "dash: topology: syntax\n",
         ),
         (&["run"], file(alloc, &OK)?, 2, USAGE),
         (&[], file(alloc, &OK)?, 2, USAGE),

@@ -1,4 +1,4 @@
-use Rattle.std.proofs.Common.{true, [], ◌∷◌, sym, ◌∙◌, ap, subst}
+use Rattle.std.proofs.Common.{◌∷◌, sym, ◌∙◌, ap, subst}
 use Rattle.dash_event.specs.Records.{accesses_of, console_of}
 use Rattle.std.specs.List.{AllByRecursion}
 use Rattle.trace_text.specs.Fits.{FitsEvent}

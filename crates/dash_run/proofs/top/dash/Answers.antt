@@ -14,5 +14,5 @@ returns g c =
       order = λ made. of_run _ _ _ _ (λ w run. record { coherent = c.runs_are_coherent.ensures w _ run; releases = c.runs_keep_releases.ensures w _ run }) (whole_run _ _ _ _ _ _ _ _ ends made);
       sequential = λ made. of_run _ _ _ _ (λ w run labelled. c.runs_are_sequential.ensures w _ labelled run) (whole_run _ _ _ _ _ _ _ _ ends made);
       status = has_cause _ _ _ _ _ _ _ _ ends;
-      completeness = λ q bytes clean small accepted. accepted_status _ _ _ _ _ _ _ _ q bytes ends clean small accepted;
+      completeness = λ q inputs clean small accepted. accepted_status _ _ _ _ _ _ _ _ q inputs ends clean small accepted;
     }
