@@ -19,6 +19,7 @@ import collections
 import re
 import sys
 
+import common  # with it tools/races.py is found
 import races
 import reference
 import shown
