@@ -11,7 +11,7 @@ use Rattle.elf_load.specs.declared.memory_map.MemoryMap.{MemoryMap}
 use Rattle.elf_load.specs.declared.refusal.LoadRefusal.{LoadRefusal}
 use Rattle.elf_load.specs.declared.refusal.LoadRefusal.TheVariants as load_refusal
 use Rattle.dash_run.specs.declared.output.Output.{Output}
-use Rattle.dash_run.specs.declared.output.Output.TheVariants.{Usage, Line, Report}
+use Rattle.dash_run.specs.declared.output.Output.TheVariants.{Usage, Line, Report, Summary}
 use Rattle.dash_run.specs.Inputs.{Inputs}
 use Rattle.dash_run.specs.Accepted.{IsTopologyOf, IsRefusedText}
 use Rattle.dash_run.specs.Ran.{Ran}
@@ -28,6 +28,7 @@ report_on with_log bytes image t m (Report status sections) ran base size accept
   accepted = accepted;
   report = let for_image : ImageView → Type 0 = λ i. IsReport with_log (record { image = i; top = t }) (Report status sections) ran in subst for_image same report;
 }
+report_on with_log bytes image t m (Summary text) ran base size accepted same report = absurd report
 
 -- a refusal for another cause than memory is the one that applies
 pub refusal_applies : (bytes : List ℕ) (map : MemoryMap) (refusal : LoadRefusal) → (refusal ≡ load_refusal.OutOfMemory → ⊥) → Refuses bytes map refusal → IsFirstRefusal bytes map refusal
@@ -63,6 +64,7 @@ answer_of with_log inputs t (Report status sections) ran topology answer = recor
   is_report = (answer.report).is_report;
   log_fits = (answer.report).log_fits;
 }
+answer_of with_log inputs t (Summary text) ran topology answer = absurd answer
 
 -- a refusal for another cause than memory, of a text as it is read
 pub text_refused : (bytes : List ℕ) (refusal : TopoRefusal) → IsRefused bytes refusal → (refusal ≡ topo.OutOfMemory → ⊥) → IsRefusedText bytes refusal

@@ -41,4 +41,4 @@ failed_report words files loads prints printed calls _ _ q inputs (printed_all f
     absurd (no_run_status s (inr (inr (inr (inl is_five)))) (run_output words files loads first s to texts ran q inputs is_output loaded accepted))
 failed_report words files loads prints printed calls _ _ q inputs (print_failed first s to texts ran is_output rose follows made) loaded accepted is_five =
     (rose, inr (output_left words files loads.old loads.new first s to texts ran is_output (run_output words files loads first s to texts ran q inputs is_output loaded accepted)))
-failed_report words files loads prints printed calls _ _ q inputs (out_of_memory r first asks loading steady same made) loaded accepted is_five = absurd (omega arith)
+failed_report words files loads prints printed calls _ _ q inputs (out_of_memory first begun steady same made) loaded accepted is_five = absurd (omega arith)

@@ -20,3 +20,4 @@ pub mod Theorem
 pub mod Broken
 pub mod HostCalls
 pub mod Workloads
+pub mod Summed

@@ -5,12 +5,13 @@ use Rattle.dash_base.specs.declared.host.Stream.{Stream}
 use Rattle.dash_base.specs.declared.host.Stream.TheVariants as stream
 use Rattle.dash_run.proofs.Printing.{with_calls_twice, with_no_calls}
 use Rattle.dash_run.specs.declared.output.Output.{Output}
-use Rattle.dash_run.specs.declared.output.Output.TheVariants.{Usage, Line, Report}
-use Rattle.dash_run.specs.CommandLine.{Request, Asks, IsUsageError}
+use Rattle.dash_run.specs.declared.output.Output.TheVariants.{Usage, Line, Report, Summary}
+use Rattle.dash_run.specs.CommandLine.{Request, Asks, AsksSeed, IsUsageError}
+use Rattle.dash_run.specs.Generated.{IsGenerated}
 use Rattle.dash_run.specs.Inputs.{Inputs, AreGiven, loads_of, all_files}
 use Rattle.dash_run.specs.Ran.{Ran, no_run}
-use Rattle.dash_run.specs.Outcome.{IsOutput, usage, no_file, bad_topology, refused, reported, Ends, printed_all, print_failed, out_of_memory, joined, usage_line}
-use Rattle.dash_run.specs.Output.{IsAnswer, output_status, output_stream, output_texts, HasInputs, HasFault, HasTried, IsShort, IsReady}
+use Rattle.dash_run.specs.Outcome.{IsOutput, usage, no_file, bad_topology, refused, reported, generated, by_files, by_seed, Ends, printed_all, print_failed, out_of_memory, joined, usage_line}
+use Rattle.dash_run.specs.Output.{IsAnswer, output_status, output_stream, output_texts, HasInputs, HasFault, HasBegun, HasTried, IsShort, IsReady}
 
 -- an output that leaves no run, of what was left
 leaves_none : (words : List (List ℕ)) (files : Option Files) (before after : ℕ) (loaded : List Call) (status : ℕ) (to : Stream) (texts : List (List ℕ)) (ran : Ran)
@@ -26,6 +27,7 @@ answer_output words files before after q inputs (Line status text) ran asks give
 answer_output words files before after q inputs (Line status text) ran asks given same (inr line, none) =
     rw (line.status_is, line.text_is, none) (refused q inputs line.refusal asks given line.refused same)
 answer_output words files before after q inputs (Report status sections) ran asks given same answer = reported q inputs status sections ran asks given answer same
+answer_output words files before after q inputs (Summary text) ran asks given same answer = absurd answer
 
 -- the output for inputs that were given stands ready
 pub answer_ready : (words : List (List ℕ)) (files : Option Files) (before after : ℕ) (old new : Option (List Call)) (q : Request) (inputs : Inputs) (output : Output) (ran : Ran)
@@ -60,10 +62,23 @@ usage_ready words files before told ran usage_error none = record {
 pub inputs_short : (words : List (List ℕ)) (files : Option Files) (before after : ℕ) (old new : Option (List Call)) (q : Request) (inputs : Inputs)
     → Asks words q → HasInputs files before after old new q inputs → IsShort words old new
 inputs_short words files before after old new q inputs asks has = record {
-  request = q;
-  asks = asks;
-  begun = record { loaded = loads_of q; loading = all_files; made = has.made };
+  loaded = loads_of q;
+  begun = by_files q (loads_of q) asks all_files;
+  made = has.made;
 }
+
+-- where there was none while they were loaded
+pub begun_short : (words : List (List ℕ)) (old new : Option (List Call)) (q : Request) → Asks words q → HasBegun q old new → IsShort words old new
+begun_short words old new q asks has = record { loaded = has.loaded; begun = by_files q has.loaded asks has.loading; made = has.made }
+
+-- the summary of a seed's workload stands ready, without a load
+pub summary_ready : (words : List (List ℕ)) (files : Option Files) (before : ℕ) (told : Option (List Call)) (seed : ℕ) (text : List ℕ) (ran : Ran)
+    → AsksSeed words seed → IsGenerated seed text ran → IsReady words files before before told told 0 stream.Out (text ∷ []) ran
+summary_ready words files before told seed text ran asks is = record { loaded = []; output = generated seed text ran asks is refl; made = with_no_calls told }
+
+-- there was no memory for it
+pub seed_short : (words : List (List ℕ)) (told : Option (List Call)) (seed : ℕ) → AsksSeed words seed → IsShort words told told
+seed_short words told seed asks = record { loaded = []; begun = by_seed seed asks; made = with_no_calls told }
 
 -- how a call ends that printed its whole output
 pub ends_all : (words : List (List ℕ)) (files : Option Files) (l0 l1 l2 p0 p1 p2 : ℕ) (q0 q1 q2 : Option Printed) (c0 c1 c2 : Option (List Call)) (status : ℕ) (to : Stream) (texts : List (List ℕ)) (ran : Ran)
@@ -100,4 +115,4 @@ pub ends_early : (words : List (List ℕ)) (files : Option Files) (l0 l1 p0 p1 :
     → IsShort words c0 c1 → p1 ≡ p0 → q1 ≡ q0
     → Ends words files (record { old = l0; new = l1 }) (record { old = p0; new = p1 }) (record { old = q0; new = q1 }) (record { old = c0; new = c1 }) 6 no_run
 ends_early words files l0 l1 p0 p1 q0 q1 c0 c1 short faults printed =
-    out_of_memory short.request short.begun.loaded short.asks short.begun.loading faults printed short.begun.made
+    out_of_memory short.loaded short.begun faults printed short.made

@@ -1,7 +1,9 @@
 -- The words ask for one thing.
-use Rattle.std.proofs.Common.{◌≡◌, ℕ, Bool, true, false, List, [], ◌∷◌, Option, Some, None, IfNone, sym, ◌∙◌, arith}
+use Rattle.std.proofs.Common.{◌≡◌, ℕ, ◌<◌, Bool, true, false, codes, List, [], ◌∷◌, Option, Some, None, IfNone, sym, ◌∙◌, ap, arith}
 use Rattle.std.proofs.lemmas.Fmt.{decimal_injective}
-use Rattle.dash_run.specs.CommandLine.{MachineWords, Sizes, File, Request, IsNumber, AreSizes, AsksRun, AsksFile, AsksSizes, IsLogged, Asks}
+use Rattle.dash_base.specs.Outside.{Call}
+use Rattle.dash_run.specs.CommandLine.{MachineWords, Sizes, File, Request, IsNumber, AreSizes, AsksRun, AsksFile, AsksSizes, IsLogged, Asks, AsksSeed, IsAsked, for_image, for_seed, AsksNoImage, AsksNoSeed, IsUsageError}
+use Rattle.dash_run.specs.Outcome.{IsBegun, by_files, by_seed}
 
 pub one_number : (word : List ℕ) (m n : ℕ) → IsNumber word m → IsNumber word n → m ≡ n
 one_number word m n first second =
@@ -40,6 +42,43 @@ one_request (a ∷ b ∷ c ∷ d ∷ []) q r first second = one_file a b c true 
 one_request (a ∷ b ∷ c ∷ d ∷ e ∷ []) q r first second = one_with a b c d e false q r first second
 one_request (a ∷ b ∷ c ∷ d ∷ e ∷ f ∷ []) q r first second = one_with a b c d e true q r first.asked second.asked
 one_request (a ∷ b ∷ c ∷ d ∷ e ∷ f ∷ g ∷ more) q r first second = absurd first
+
+pub one_seed : (words : List (List ℕ)) (s r : ℕ) → AsksSeed words s → AsksSeed words r → s ≡ r
+one_seed [] s r first second = absurd first
+one_seed (a ∷ []) s r first second = absurd first
+one_seed (a ∷ b ∷ []) s r first second = one_number b s r first.seed_is second.seed_is
+one_seed (a ∷ b ∷ c ∷ more) s r first second = absurd first
+
+unequal : (m n : ℕ) → n < m → m ≡ n → ⊥
+unequal m n less same = omega arith
+
+first_of : List ℕ → ℕ
+first_of [] = 0
+first_of (c ∷ cs) = c
+
+differ : codes "run" ≡ codes "gen" → ⊥
+unfolding first_of
+differ same = unequal 114 103 (omega arith) (ap first_of same)
+
+-- words that ask for an image ask for no seed
+pub not_both : (words : List (List ℕ)) (q : Request) (seed : ℕ) → Asks words q → AsksSeed words seed → ⊥
+not_both [] q seed first second = second
+not_both (a ∷ []) q seed first second = second
+not_both (a ∷ b ∷ []) q seed first second = differ (sym first.run.is_run ∙ second.is_gen)
+not_both (a ∷ b ∷ c ∷ more) q seed first second = second
+
+-- words that ask for neither ask for nothing
+none_asked : (words : List (List ℕ)) → AsksNoSeed words → AsksNoImage words → IsAsked words → ⊥
+none_asked words no_seed no_image (for_image q asks) = no_image q asks
+none_asked words no_seed no_image (for_seed seed asks) = no_seed seed asks
+
+pub no_form_left : (words : List (List ℕ)) → AsksNoSeed words → AsksNoImage words → IsUsageError words
+no_form_left words no_seed no_image = none_asked words no_seed no_image
+
+-- a call that loads for something was asked for it
+pub begun_asked : (words : List (List ℕ)) (loaded : List Call) → IsBegun words loaded → IsAsked words
+begun_asked words _ (by_files q loaded asks loading) = for_image q asks
+begun_asked words _ (by_seed seed asks) = for_seed seed asks
 
 -- what is not asked for without the log isn't with it
 pub none_logged : {A : Type 0} (r : Option A) (flag : List ℕ) (P : Request → Type 0) → IfNone r ((q : Request) → P q → ⊥) → IfNone r ((q : Request) → IsLogged flag (P q) → ⊥)

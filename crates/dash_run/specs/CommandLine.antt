@@ -1,4 +1,4 @@
--- The forms of a command line that are served: `run IMAGE`; `run IMAGE TOPOLOGY` and `run IMAGE CLUSTERS HARTS BUDGET`, each with or without `--log` behind it.
+-- The forms of a command line that are served: `run IMAGE`; `run IMAGE TOPOLOGY` and `run IMAGE CLUSTERS HARTS BUDGET`, each with or without `--log` behind it; and `gen SEED`.
 use Rattle.std.specs.Prelude.{◌≡◌, ℕ, ◌^◌, ◌<◌, ◌==◌, Bool, true, false, not, List, [], ◌∷◌, codes, decimal}
 
 -- which machine is asked for: three numbers, the first three keys of a topology; or the name of a file with a topology
@@ -70,11 +70,29 @@ Asks (command ∷ image ∷ clusters ∷ harts ∷ budget ∷ []) q = AsksSizes 
 Asks (command ∷ image ∷ clusters ∷ harts ∷ budget ∷ flag ∷ []) q = IsLogged flag (AsksSizes command image clusters harts budget true q)
 Asks _ q = ⊥
 
+-- `gen SEED`
+pub record AsksSummary (command word : List ℕ) (seed : ℕ) : Type 0 where
+  pub is_gen : command ≡ codes "gen"
+  pub seed_is : IsNumber word seed
+
+-- the seed that the words ask for
+abbrev pub AsksSeed : List (List ℕ) → ℕ → Type 0
+AsksSeed (command ∷ word ∷ []) seed = AsksSummary command word seed
+AsksSeed _ seed = ⊥
+
+-- they ask for no image
+abbrev pub AsksNoImage : List (List ℕ) → Type 0
+AsksNoImage words = (q : Request) → Asks words q → ⊥
+
+-- they ask for no seed
+abbrev pub AsksNoSeed : List (List ℕ) → Type 0
+AsksNoSeed words = (seed : ℕ) → AsksSeed words seed → ⊥
+
+-- the words ask for something: for the run of an image, or for that of a seed's workload
+pub data IsAsked (words : List (List ℕ)) : Type 0 where
+  for_image : (q : Request) → Asks words q → IsAsked words
+  for_seed : (seed : ℕ) → AsksSeed words seed → IsAsked words
+
 -- the words have no form that is served
 abbrev pub IsUsageError : List (List ℕ) → Type 0
-IsUsageError words = (q : Request) → Asks words q → ⊥
-
--- the words ask for something
-pub record IsAsked (words : List (List ℕ)) : Type 0 where
-  pub request : Request
-  pub asks : Asks words request
+IsUsageError words = IsAsked words → ⊥

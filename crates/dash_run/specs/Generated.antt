@@ -4,8 +4,7 @@ use Rattle.dash_base.specs.declared.topology.Topology.{Topology}
 use Rattle.round_run.specs.declared.finished.Cause.TheVariants.{Exited}
 use Rattle.workload_gen.specs.Workload.{IsMachine}
 use Rattle.workload_runs.specs.Runs.{workload, whole_summary}
-use Rattle.dash_run.specs.Outcome.{IsRunOf}
-use Rattle.dash_run.specs.Ran.{Ran}
+use Rattle.dash_run.specs.Ran.{Ran, IsRunOf}
 
 -- a run of a seed's workload on its machine ended, every hart having exited, with this summary: that of the workload's totals
 pub record IsGenerated (seed : ℕ) (text : List ℕ) (ran : Ran) : Type 0 where

@@ -11,15 +11,15 @@ use Rattle.elf_load.specs.Refusal.{IsLoadable}
 use Rattle.elf_load.specs.declared.memory_map.MemoryMap.{MemoryMap}
 use Rattle.elf_load.specs.declared.refusal.LoadRefusal.{LoadRefusal}
 use Rattle.elf_load.specs.declared.refusal.LoadRefusal.TheVariants.{Short, NotElf, NotClass32Little, NotRiscv, NotExec, Compressed, Reduced, HeaderSize, SegmentOutOfFile, FileSizeAboveMemory, SegmentOutOfMemory, Overlap, NoSegment, EntryNotExecutable, OutOfMemory}
-use Rattle.round_run.specs.Finished.{IsFinished, status_of}
+use Rattle.round_run.specs.Finished.{status_of}
 use Rattle.round_run.specs.declared.finished.Cause.{Cause}
-use Rattle.dash_model.specs.Config.{Config}
 use Rattle.std.specs.List.{AllByRecursion}
 use Rattle.trace_text.specs.Fits.{FitsEvent}
-use Rattle.dash_run.specs.CommandLine.{Request, Asks, IsUsageError}
+use Rattle.dash_run.specs.CommandLine.{Request, Asks, AsksSeed, IsUsageError}
+use Rattle.dash_run.specs.Generated.{IsGenerated}
 use Rattle.dash_run.specs.Inputs.{NamedFile, IsFileOf, Inputs, IsTooLarge, AreGiven, AreThere, loads_of, IsReached, IsLoading}
 use Rattle.dash_run.specs.Accepted.{IsMachine, IsRefusedTopology, IsRefused, config_of}
-use Rattle.dash_run.specs.Ran.{Ran, no_run, itself}
+use Rattle.dash_run.specs.Ran.{Ran, no_run, IsRunOf}
 use Rattle.dash_run.specs.Report.{report_of}
 use Rattle.trace_text.specs.Spelling.{newline, hex}
 
@@ -68,11 +68,6 @@ refusal_text OutOfMemory = []
 unfoldable pub refusal_line : LoadRefusal → List ℕ
 refusal_line refusal = codes "dash: image: " ++ refusal_text refusal ++ newline
 
--- a run of machine w ended, for this cause
-pub record IsRunOf (w : Config) (ran : Ran) (cause : Cause) : Type 0 where
-  pub waits : List Bool
-  pub finished : IsFinished itself w ran.log ran.units ran.rounds waits cause
-
 -- the topology and the image of inputs are accepted, and a run of it ended with this exit status and report, with the log or without it; the numbers of a log that is printed are within the bounds of their types
 pub record IsReported (with_log : Bool) (inputs : Inputs) (status : ℕ) (texts : List (List ℕ)) (ran : Ran) : Type 0 where
   pub machine : Topology
@@ -108,6 +103,9 @@ pub data IsOutput (words : List (List ℕ)) (files : Option Files) (before after
   -- its run is reported
   reported : (q : Request) (inputs : Inputs) (status : ℕ) (texts : List (List ℕ)) (ran : Ran) → Asks words q → AreGiven files q inputs → IsReported q.log inputs status texts ran → after ≡ before
       → IsOutput words files before after (loads_of q) status stream.Out texts ran
+  -- the run of a seed's workload is summed up
+  generated : (seed : ℕ) (text : List ℕ) (ran : Ran) → AsksSeed words seed → IsGenerated seed text ran → after ≡ before
+      → IsOutput words files before after [] 0 stream.Out (text ∷ []) ran
 
 -- a count of a host's faults, what it had printed, or the calls that were made of it, before a call and after it
 pub record Change (A : Type 0) : Type 0 where
@@ -118,10 +116,15 @@ pub record Change (A : Type 0) : Type 0 where
 abbrev pub joined : List (List ℕ) → List ℕ
 joined texts = fold ◌++◌ [] texts
 
--- the loads that a call makes: none for words without a form, else that of the image, or of all files
+-- the loads of a call that asks for something: that of the image, or of all files; and none for a seed
+pub data IsBegun (words : List (List ℕ)) : List Call → Type 0 where
+  by_files : (q : Request) (loaded : List Call) → Asks words q → IsLoading q loaded → IsBegun words loaded
+  by_seed : (seed : ℕ) → AsksSeed words seed → IsBegun words []
+
+-- the loads that a call makes: these, or none for words without a form
 pub data LoadsOf (words : List (List ℕ)) : List Call → Type 0 where
   no_load : IsUsageError words → LoadsOf words []
-  some_loads : (q : Request) (loaded : List Call) → Asks words q → IsLoading q loaded → LoadsOf words loaded
+  some_loads : (loaded : List Call) → IsBegun words loaded → LoadsOf words loaded
 
 -- the host's calls were the loads and then a print of each text
 pub record PrintsAll (loaded : List Call) (to : Stream) (texts : List (List ℕ)) (calls : Change (Option (List Call))) : Type 0 where
@@ -150,7 +153,7 @@ pub data Ends (words : List (List ℕ)) (files : Option Files) (loads prints : C
   print_failed : (loaded : List Call) (status : ℕ) (to : Stream) (texts : List (List ℕ)) (ran : Ran) → IsOutput words files loads.old loads.new loaded status to texts ran
       → Rose prints.old prints.new → Follows (AppendsPart to (joined texts)) printed.old printed.new → PrintsPart loaded to texts calls → Ends words files loads prints printed calls 5 ran
   -- there was no memory: it printed nothing
-  out_of_memory : (q : Request) (loaded : List Call) → Asks words q → IsLoading q loaded
+  out_of_memory : (loaded : List Call) → IsBegun words loaded
       → prints.new ≡ prints.old → printed.new ≡ printed.old → calls.new ≡ with_calls calls.old loaded → Ends words files loads prints printed calls 6 no_run
 
 -- the exit statuses of a run
@@ -175,14 +178,26 @@ pub record NamesRefused (words : List (List ℕ)) (files : Option Files) : Type 
   pub refusal : LoadRefusal
   pub refused : IsRefused inputs refusal
 
--- the words ask for a run that ends with this status, and leaves this
-pub record NamesRun (words : List (List ℕ)) (files : Option Files) (status : ℕ) (ran : Ran) : Type 0 where
+-- the words ask for an image whose run ends with this status, and leaves this
+pub record NamesReport (words : List (List ℕ)) (files : Option Files) (status : ℕ) (ran : Ran) : Type 0 where
   pub request : Request
   pub asked : Asks words request
   pub inputs : Inputs
   pub given : AreGiven files request inputs
   pub texts : List (List ℕ)
   pub reported : IsReported request.log inputs status texts ran
+
+-- the words ask for a seed, and the run of its workload leaves this
+pub record NamesSummary (words : List (List ℕ)) (ran : Ran) : Type 0 where
+  pub seed : ℕ
+  pub asked : AsksSeed words seed
+  pub text : List ℕ
+  pub generated : IsGenerated seed text ran
+
+-- the words ask for a run that ends with this status, and leaves this
+pub data NamesRun (words : List (List ℕ)) (files : Option Files) : ℕ → Ran → Type 0 where
+  runs_image : (status : ℕ) (ran : Ran) → NamesReport words files status ran → NamesRun words files status ran
+  runs_seed : (ran : Ran) → NamesSummary words ran → NamesRun words files 0 ran
 
 -- the words name a file that is larger than its limit
 pub record NamesLarge (words : List (List ℕ)) (files : Option Files) : Type 0 where

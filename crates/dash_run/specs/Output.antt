@@ -14,7 +14,7 @@ use Rattle.round_run.specs.declared.finished.Cause.{Cause}
 use Rattle.dash_model.specs.Config.{Config}
 use Rattle.trace_text.specs.Fits.{FitsEvent}
 use Rattle.dash_run.specs.declared.output.Output.{Output}
-use Rattle.dash_run.specs.declared.output.Output.TheVariants.{Usage, Line, Report}
+use Rattle.dash_run.specs.declared.output.Output.TheVariants.{Usage, Line, Report, Summary}
 use Rattle.dash_run.specs.declared.command_line.Command.{Command}
 use Rattle.dash_run.specs.declared.command_line.MachineWords as code_words
 use Rattle.dash_run.specs.declared.command_line.MachineWords.TheVariants as code_word
@@ -25,28 +25,31 @@ use Rattle.dash_run.specs.declared.files.LoadedFile.{LoadedFile}
 use Rattle.dash_run.specs.declared.files.LoadedFile.TheVariants.{Bytes, NoBytes}
 use Rattle.dash_run.specs.declared.files.Loaded.{Loaded}
 use Rattle.dash_run.specs.declared.files.Loaded.TheVariants.{Given, NotGiven}
-use Rattle.dash_run.specs.CommandLine.{MachineWords, Sizes, File, Request, Asks}
+use Rattle.dash_run.specs.CommandLine.{MachineWords, Sizes, File, Request}
 use Rattle.dash_run.specs.Inputs.{NamedFile, Source, Numbers, Text, Inputs, IsGiven, AreGiven, loads_of, IsReached, IsLoading}
 use Rattle.dash_run.specs.Accepted.{IsRefusedTopology, IsRefused, config_of}
-use Rattle.dash_run.specs.Ran.{Ran, no_run}
+use Rattle.dash_run.specs.Ran.{Ran, no_run, IsRunOf}
 use Rattle.dash_run.specs.Report.{report_of}
-use Rattle.dash_run.specs.Outcome.{usage_line, topology_line, refusal_line, IsRunOf, IsReported, IsFaultLine, IsOutput, BreakOff}
+use Rattle.dash_run.specs.Outcome.{usage_line, topology_line, refusal_line, IsReported, IsFaultLine, IsOutput, IsBegun, BreakOff}
 
 abbrev pub output_status : Output → ℕ
 output_status Usage = 2
 output_status (Line status text) = status
 output_status (Report status sections) = status
+output_status (Summary text) = 0
 
 abbrev pub output_stream : Output → Stream
 output_stream Usage = stream.Err
 output_stream (Line status text) = stream.Err
 output_stream (Report status sections) = stream.Out
+output_stream (Summary text) = stream.Out
 
 -- one text for each print
 abbrev pub output_texts : Output → List (List ℕ)
 output_texts Usage = usage_line ∷ []
 output_texts (Line status text) = string_bytes text ∷ []
 output_texts (Report status sections) = sections
+output_texts (Summary text) = text.items ∷ []
 
 -- what the words ask for, as the code has it
 abbrev pub machine_of : code_words.MachineWords → MachineWords
@@ -110,9 +113,9 @@ pub record HasBegun (q : Request) (old new : Option (List Call)) : Type 0 where
 
 -- there was none in a call
 pub record IsShort (words : List (List ℕ)) (old new : Option (List Call)) : Type 0 where
-  pub request : Request
-  pub asks : Asks words request
-  pub begun : HasBegun request old new
+  pub loaded : List Call
+  pub begun : IsBegun words loaded
+  pub made : new ≡ with_calls old loaded
 
 -- the output of a call stands ready, after these calls
 pub record IsReady (words : List (List ℕ)) (files : Option Files) (before after : ℕ) (old new : Option (List Call)) (status : ℕ) (to : Stream) (texts : List (List ℕ)) (ran : Ran) : Type 0 where
@@ -131,6 +134,7 @@ abbrev pub IsAnswer : Bool → Inputs → Output → Ran → Type 0
 IsAnswer with_log inputs Usage ran = ⊥
 IsAnswer with_log inputs (Line status text) ran = (IsTopologyLine inputs status (string_bytes text) ⊎ IsRefusalLine inputs status (string_bytes text)) × (ran ≡ no_run)
 IsAnswer with_log inputs (Report status sections) ran = IsReported with_log inputs status sections ran
+IsAnswer with_log inputs (Summary text) ran = ⊥
 
 -- the report of a machine's run, with the log or without it
 pub record IsRunReport (with_log : Bool) (w : Config) (status : ℕ) (texts : List (List ℕ)) (ran : Ran) : Type 0 where
@@ -166,3 +170,4 @@ abbrev pub IsAnswerOn : Bool → Topology → List ℕ → Output → Ran → Ty
 IsAnswerOn with_log t bytes Usage ran = ⊥
 IsAnswerOn with_log t bytes (Line status text) ran = IsRefusalOn t bytes status (string_bytes text) × (ran ≡ no_run)
 IsAnswerOn with_log t bytes (Report status sections) ran = IsReportOn with_log t bytes (Report status sections) ran
+IsAnswerOn with_log t bytes (Summary text) ran = ⊥

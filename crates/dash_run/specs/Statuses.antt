@@ -5,7 +5,8 @@ use Rattle.dash_base.specs.declared.host.Stream.{Stream}
 use Rattle.dash_base.specs.declared.host.Stream.TheVariants as stream
 use Rattle.dash_base.specs.declared.topology.TopoRefusal.{TopoRefusal}
 use Rattle.elf_load.specs.declared.refusal.LoadRefusal.{LoadRefusal}
-use Rattle.dash_run.specs.CommandLine.{Request, Asks, IsUsageError}
+use Rattle.dash_run.specs.CommandLine.{Request, Asks, AsksSeed, IsUsageError}
+use Rattle.dash_run.specs.Generated.{IsGenerated}
 use Rattle.dash_run.specs.Ran.{Ran}
 use Rattle.dash_run.specs.Theorem.{MadeRun}
 use Rattle.dash_run.specs.Inputs.{NamedFile, IsFileOf, Inputs, AreGiven, AreThere, AreSmall, loads_of}
@@ -54,7 +55,7 @@ FaultHasCause = (c : TopCall) → c.status ≡ 5 → IsFault c.words c.files c.l
 abbrev pub OutOfMemoryIsQuiet : Type 0
 OutOfMemoryIsQuiet = (c : TopCall) → c.status ≡ 6 → c.printed.new ≡ c.printed.old
 
--- the statuses of a run come only for the whole run of an image that is accepted
+-- the statuses of a run come only for the whole run of an image that is accepted, or of a seed's workload
 abbrev pub RunHasCause : Type 0
 RunHasCause = (c : TopCall) → IsRunStatus c.status → NamesRun c.words c.files c.status c.ran
 
@@ -114,7 +115,7 @@ FailedReportLeavesRun =
 -- ---- the calls of the host
 
 -- the host's calls were the loads of the files that the words name and a print on standard output for each section of the run's report
-pub record MakesRunCalls (words : List (List ℕ)) (files : Option Files) (calls : Change (Option (List Call))) (status : ℕ) (ran : Ran) : Type 0 where
+pub record MakesReportCalls (words : List (List ℕ)) (files : Option Files) (calls : Change (Option (List Call))) (status : ℕ) (ran : Ran) : Type 0 where
   pub request : Request
   pub asked : Asks words request
   pub inputs : Inputs
@@ -122,6 +123,19 @@ pub record MakesRunCalls (words : List (List ℕ)) (files : Option Files) (calls
   pub texts : List (List ℕ)
   pub reported : IsReported request.log inputs status texts ran
   pub made : calls.new ≡ with_calls calls.old (loads_of request ++ map (print_on stream.Out) texts)
+
+-- the host's only call was a print on standard output of the summary of a run of a seed's workload
+pub record MakesSummaryCalls (words : List (List ℕ)) (calls : Change (Option (List Call))) (ran : Ran) : Type 0 where
+  pub seed : ℕ
+  pub asked : AsksSeed words seed
+  pub text : List ℕ
+  pub generated : IsGenerated seed text ran
+  pub made : calls.new ≡ with_calls calls.old (print_on stream.Out text ∷ [])
+
+-- the host's calls were those of a run's report, or of its summary
+pub data MakesRunCalls (words : List (List ℕ)) (files : Option Files) (calls : Change (Option (List Call))) : ℕ → Ran → Type 0 where
+  for_report : (status : ℕ) (ran : Ran) → MakesReportCalls words files calls status ran → MakesRunCalls words files calls status ran
+  for_summary : (ran : Ran) → MakesSummaryCalls words calls ran → MakesRunCalls words files calls 0 ran
 
 -- the last of the host's calls was a print that failed
 pub record StopsAtPrint (words : List (List ℕ)) (calls : Change (Option (List Call))) : Type 0 where
@@ -131,7 +145,7 @@ pub record StopsAtPrint (words : List (List ℕ)) (calls : Change (Option (List 
   pub texts : List (List ℕ)
   pub prints_part : PrintsPart loaded to texts calls
 
--- with the statuses of a run the calls were the load of each file and a print of each section
+-- with the statuses of a run the calls were the load of each file and a print of each section, or a print of the summary
 abbrev pub RunsLoadAndPrint : Type 0
 RunsLoadAndPrint = (c : TopCall) → IsRunStatus c.status → MakesRunCalls c.words c.files c.calls c.status c.ran
 

@@ -1,6 +1,6 @@
-//! The words of a command line.
+//! The words of a command line that ask for an image.
 ghost use Rattle.std.specs.Prelude.{◌≡◌, ◌≢◌, ◌<◌, ◌^◌, ℕ, IfSome, IfNone, map, string_bytes, codes, decimal, IsTrue, Bool, true, ◌↔◌};
-ghost use Rattle.dash_run.specs.CommandLine.{MachineWords as Words, Request, is_name, Asks, AsksAlone, AsksFile, AsksSizes, AreSizes, IsLogged, IsUsageError, IsNumber};
+ghost use Rattle.dash_run.specs.CommandLine.{MachineWords as Words, Request, is_name, Asks, AsksAlone, AsksFile, AsksSizes, AreSizes, IsLogged, AsksNoImage, IsNumber};
 ghost use Rattle.dash_run.specs.Output.{machine_of, request_of};
 
 use itoa::Buffer;
@@ -32,7 +32,7 @@ pub enum MachineWords<'a> {
 /// `run IMAGE CLUSTERS HARTS BUDGET` with or without `--log` behind it.
 pub fn read_words(words: &[String]) -> Option<Command<'_>>
     ensures some { IfSome result (λ q. Asks (map string_bytes words.now) (request_of q)) }
-    ensures none { IfNone result (IsUsageError (map string_bytes words.now)) }
+    ensures none { IfNone result (AsksNoImage (map string_bytes words.now)) }
 {
     match words {
         [command, image] => read_alone(command.as_str(), image.as_str()),
@@ -196,7 +196,7 @@ fn is_name(word: &str) -> bool
 }
 
 /// The number of 32 bits of which a word is the decimal spelling, without needless zeros or a sign.
-fn number(word: &str) -> Option<u32>
+pub fn number(word: &str) -> Option<u32>
     ensures some { IfSome result (IsNumber word.now) }
     ensures none { IfNone result ((n : ℕ) → n < 2 ^ 32 → decimal n ≢ word.now) }
 {

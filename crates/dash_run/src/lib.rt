@@ -18,4 +18,5 @@ mod output;
 mod report;
 mod retired;
 mod run;
+mod seed;
 mod top;

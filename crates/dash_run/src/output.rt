@@ -12,6 +12,8 @@ pub enum Output {
     Line { status: u8, text: String },
     /// The sections of a report on standard output.
     Report { status: u8, sections: Sections },
+    /// Status 0, and the summary of a workload's run on standard output.
+    Summary { text: Vec<u8> },
 }
 
 /// The sections of a report, each for a print, the log where it is asked for. Contracts see their texts.
@@ -41,6 +43,7 @@ impl Output {
         match self {
             Output::Usage => 2,
             Output::Line { status, .. } | Output::Report { status, .. } => *status,
+            Output::Summary { .. } => 0,
         }
     }
 }

@@ -2,19 +2,21 @@
 ghost use Rattle.std.specs.Prelude.{◌≡◌, ℕ, ◌≤◌, ◌⊎◌, ◌++◌, ◌∷◌, List, [], Bool, length, IfOk, IsTrue, OnErr, OnOk, map, string_bytes, vec_len};
 ghost use Rattle.dash_base.specs.declared.host.Stream.TheVariants as stream;
 ghost use Rattle.dash_base.specs.Outside.{Appends, AppendsPart, Follows, Rose, print_on, with_calls};
-ghost use Rattle.dash_run.specs.CommandLine.{Request, Asks};
+ghost use Rattle.dash_run.specs.CommandLine.{Request, Asks, AsksSeed, AsksNoSeed};
 ghost use Rattle.dash_run.specs.Inputs.{NamedFile, IsFileOf, Inputs, AreSmall};
 ghost use Rattle.dash_run.specs.Accepted.{IsAccepted};
 ghost use Rattle.dash_run.specs.Outcome.{Ends, IsClean, IsRunStatus, joined};
 ghost use Rattle.dash_run.specs.Output.{output_status, output_stream, output_texts, IsReady, IsShort, HasTried};
-ghost use Rattle.dash_run.specs.Theorem.{MadeRun, OfMachine, IsWholeRun, HasPrinted, IsOrdered, IsSequential, HasCause};
+ghost use Rattle.dash_run.specs.Theorem.{MadeRun, OfMachine, IsWholeRun, HasPrinted, IsOrdered, IsSequential, HasCause, EndsSummed};
 
 use crate::answer::answer;
 use crate::command_line::read_words;
 use crate::files::{Loaded, load_inputs};
+use crate::generated::{Generated, generate_and_run};
 use crate::lines;
 use crate::output::{Output, Prepared, Sections};
 use crate::run::Run;
+use crate::seed::read_seed;
 use arbiter::Arbiter;
 use cluster_unit::Unit;
 use dash_base::{Failed, Host, OutOfMemory, Stream};
@@ -91,6 +93,13 @@ pub fn dash<R: Threads + Wait + Sync, H: Host, G: Gate>(
         (record { old = H.load_faults host.old; new = H.load_faults host.new })
         (record { old = H.print_faults host.old; new = H.print_faults host.new }) q inputs
         → AreSmall q inputs → IsAccepted inputs → IsRunStatus result.status ⊎ (result.status ≡ 6) }
+
+    // A seed gives status 0 and the summary of its workload, by one print and no other call of the host; or
+    // the print failed after a part of it, or there was no memory.
+    ensures summary { (seed : ℕ) → AsksSeed (map string_bytes words.now) seed → EndsSummed seed
+        (record { old = H.print_faults host.old; new = H.print_faults host.new })
+        (record { old = H.printed host.old; new = H.printed host.new })
+        (record { old = H.calls host.old; new = H.calls host.new }) result.status }
 {
     runs_are_coherent();
     runs_keep_releases();
@@ -128,7 +137,7 @@ fn carry_out<R: Threads + Wait + Sync, H: Host, G: Gate>(
     }
 }
 
-/// Loads the files that the words name, runs the image, and makes what is to be printed.
+/// Makes what is to be printed for the words.
 fn prepare<R: Threads + Wait + Sync, H: Host, G: Gate>(
     rt: &R,
     alloc: Global,
@@ -138,6 +147,35 @@ fn prepare<R: Threads + Wait + Sync, H: Host, G: Gate>(
     arbiters: Vec<Box<dyn Arbiter + Send>>,
 ) -> Result<Prepared, OutOfMemory>
     requires names { (q : Request) → Asks (map string_bytes words.now) q → (file : NamedFile) → IsFileOf q file → IsTrue (H.may_load host.old file.name) }
+    requires arbiters { vec_len arbiters ≡ 16 }
+    ensures ready { IfOk result (λ a. IsReady (map string_bytes words.now) (H.files host.old) (H.load_faults host.old) (H.load_faults host.new) (H.calls host.old) (H.calls host.new)
+        (output_status a.output) (output_stream a.output) (output_texts a.output)
+        (record { log = a.run.log.items; units = map (λ u. record { core = u.core; turns = u.turns; steps = u.steps; ahead = u.ahead }) a.run.units.items; rounds = a.run.rounds })) }
+    ensures memory { OnErr result (IsShort (map string_bytes words.now) (H.calls host.old) (H.calls host.new)) }
+    ensures printed { H.printed host.new ≡ H.printed host.old }
+    ensures print_faults { H.print_faults host.new ≡ H.print_faults host.old }
+{
+    let Some(seed) = read_seed(words) else {
+        return prepare_report(rt, alloc, words, host, gate, arbiters);
+    };
+    let Generated { text, run } = generate_and_run(rt, alloc, seed, gate, arbiters)?;
+    Ok(Prepared {
+        output: Output::Summary { text },
+        run,
+    })
+}
+
+/// Loads the files that the words name, runs the image, and makes what is to be printed.
+fn prepare_report<R: Threads + Wait + Sync, H: Host, G: Gate>(
+    rt: &R,
+    alloc: Global,
+    words: &[String],
+    host: &mut H,
+    gate: &G,
+    arbiters: Vec<Box<dyn Arbiter + Send>>,
+) -> Result<Prepared, OutOfMemory>
+    requires names { (q : Request) → Asks (map string_bytes words.now) q → (file : NamedFile) → IsFileOf q file → IsTrue (H.may_load host.old file.name) }
+    requires no_seed { AsksNoSeed (map string_bytes words.now) }
     requires arbiters { vec_len arbiters ≡ 16 }
     ensures ready { IfOk result (λ a. IsReady (map string_bytes words.now) (H.files host.old) (H.load_faults host.old) (H.load_faults host.new) (H.calls host.old) (H.calls host.new)
         (output_status a.output) (output_stream a.output) (output_texts a.output)
@@ -175,6 +213,7 @@ fn show<H: Host>(host: &mut H, output: &Output) -> Result<(), Failed>
         Output::Usage => host.print(Stream::Err, lines::usage().as_bytes()),
         Output::Line { text, .. } => host.print(Stream::Err, text.as_bytes()),
         Output::Report { sections, .. } => print_sections(host, sections),
+        Output::Summary { text } => host.print(Stream::Out, text.as_slice()),
     }
 }
 
