@@ -1,0 +1,21 @@
+//! The assembler: a program from its source.
+//!
+//! It reads each line on its own, finds the addresses of the labels, and puts the bytes of the lines into
+//! segments. It knows nothing of what a machine makes of them.
+#![tactic(auto)]
+
+pub use lines::read_line;
+pub use refusal::{AsmCause, AsmRefusal};
+pub use register::Register;
+pub use statement::Statement;
+
+mod atomics;
+mod fields;
+mod immediates;
+mod jumps;
+mod lines;
+mod refusal;
+mod register;
+mod rows;
+mod said;
+mod statement;
