@@ -2,3 +2,4 @@ pub mod Places
 pub mod Values
 pub mod Found
 pub mod Again
+pub mod Cutting

@@ -1,1 +1,4 @@
-pub mod Limits
+pub mod Immediate
+pub mod Adding
+pub mod Walk
+pub mod Accepted

@@ -1,3 +1,9 @@
 pub mod Fields
 pub mod Rows
 pub mod Lines
+pub mod Labels
+pub mod Causes
+pub mod Programs
+pub mod Tree
+pub mod Limits
+pub mod Assembling

@@ -9,10 +9,14 @@ pub use refusal::{AsmCause, AsmRefusal};
 pub use register::Register;
 pub use statement::Statement;
 
+mod assembly;
 mod atomics;
+mod causes;
 mod fields;
+mod here;
 mod immediates;
 mod jumps;
+mod labels;
 mod lines;
 mod refusal;
 mod register;

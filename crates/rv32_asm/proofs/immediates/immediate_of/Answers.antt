@@ -1,6 +1,6 @@
 use Rattle.std.proofs.Common.{arith, ℤ, ◌≤ℤ◌}
 use Rattle.std.proofs.lemmas.Int.{ints}
-use Rattle.rv32_asm.proofs.Limits.{fits_immediate}
+use Rattle.rv32_asm.proofs.Immediate.{fits_immediate}
 use Rattle.rv32_asm.proofs.immediates.immediate_of.Goals as goal
 
 pub invariant_of-instr : goal.invariant_of-instr
