@@ -79,11 +79,11 @@ pub collect_next : (source text : List ℕ) (old new : List ℕ → Option Defin
     → Collects source new after (line + 1) (behind (is_mark 10) text)
 collect_next source text old new place after line sofar is bound added = record {
   labels = λ q.
-    ap (λ o. either o (definition_in after (line + 1) (left (behind (is_mark 10) text)) q)) (added q)
-    ∙ ap (λ a. either (either (old q) (defined_by place line (reading (before (is_mark 10) text)) q)) (definition_in a (line + 1) (left (behind (is_mark 10) text)) q)) is
-    ∙ sym (defined_step place line (before (is_mark 10) text) (left (behind (is_mark 10) text)) q (old q))
-    ∙ ap (λ ls. either (old q) (definition_in place line ls q)) (sym (left_step text))
-    ∙ sofar.labels q;
+      ap (λ o. either o (definition_in after (line + 1) (left (behind (is_mark 10) text)) q)) (added q)
+      ∙ ap (λ a. either (either (old q) (defined_by place line (reading (before (is_mark 10) text)) q)) (definition_in a (line + 1) (left (behind (is_mark 10) text)) q)) is
+      ∙ sym (defined_step place line (before (is_mark 10) text) (left (behind (is_mark 10) text)) q (old q))
+      ∙ ap (λ ls. either (old q) (definition_in place line ls q)) (sym (left_step text))
+      ∙ sofar.labels q;
   near = let near = sofar.near in omega arith;
   counted = let less = room_less text in let counted = sofar.counted in omega arith;
 }
@@ -120,3 +120,7 @@ room_turn text behind_it rest next_rest some behinds next_is =
     let same : room next_rest ≡ room (behind (is_mark 10) text) = ap room (next_is ∙ ap (behind (is_mark 10)) behinds) in
     let whole : room rest ≡ length text + 1 = ap room some in
     omega arith
+
+-- functions of equal answers are equal
+pub same_labels : (f g : List ℕ → Option Definition) → ((q : List ℕ) → f q ≡ g q) → f ≡ g
+same_labels f g same = λ i q. same q i

@@ -7,3 +7,4 @@ pub mod Programs
 pub mod Tree
 pub mod Limits
 pub mod Assembling
+pub mod Assembled

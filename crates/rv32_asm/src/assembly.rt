@@ -5,7 +5,6 @@ ghost use Rattle.rv32_encode.specs.Elf.{words};
 ghost use Rattle.rv32_asm.specs.Assembling.{opened, with_more, open_len, Adds, Begins};
 ghost use Rattle.rv32_asm.specs.Programs.{segment, start_of};
 
-
 use dash_base::{OutOfMemory, Segment};
 use rv32_encode::Program;
 use std::alloc::Global;
@@ -137,9 +136,11 @@ fn start_of(entry: Option<u32>, segments: &[Segment]) -> u32
 }
 
 fn push_zeros(bytes: &mut Vec<u8>, count: u32) -> Result<(), OutOfMemory>
-    ensures { IfOk result (λ _. bytes.new.items ≡ bytes.old.items ++ repeat count (0 ∷ [])) }
+    ensures bytes { IfOk result (λ _. bytes.new.items ≡ bytes.old.items ++ repeat count (0 ∷ [])) }
+    ensures len { IfOk result (λ _. length bytes.new.items ≡ length bytes.old.items + count) }
 {
-    for _ in 0..count {
+    for i in 0..count {
+        let _ = i;
         bytes.push(0)?;
     }
     Ok(())

@@ -106,7 +106,7 @@ pub fn reaches(least: i64, greatest: i64, place: u64, address: u64) -> bool
     )
 }
 
-fn offset(place: u64, address: u64) -> i128
+pub fn offset(place: u64, address: u64) -> i128
     ensures { result ≡ pos address -ℤ pos place }
 {
     i128::from(address) - i128::from(place)

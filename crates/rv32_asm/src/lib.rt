@@ -4,14 +4,17 @@
 //! segments. It knows nothing of what a machine makes of them.
 #![tactic(auto)]
 
+pub use assembler::assemble;
 pub use lines::read_line;
 pub use refusal::{AsmCause, AsmRefusal};
 pub use register::Register;
 pub use statement::Statement;
 
+mod assembler;
 mod assembly;
 mod atomics;
 mod causes;
+mod emission;
 mod fields;
 mod here;
 mod immediates;
