@@ -6,7 +6,7 @@ ghost use Rattle.unit_rows.specs.LineNeeds.{IsNeeded};
 ghost use Rattle.unit_rows.specs.Shown.{config, shown, hart_at, AreSized};
 ghost use Rattle.cluster_unit.specs.Listing.{HasListed, IsBelow, IsRead, IsWritten};
 
-use crate::offers::offer;
+use crate::offers::{offer_needed_own, offer_needed_read};
 use dash_base::LineId;
 use unit_rows::{Choice, Parts, Site, is_this, needed_copy, needed_store, needed_write};
 
@@ -58,7 +58,7 @@ fn offer_read(site: &Site, parts: &Parts, hart: u32, choices: &mut Vec<Choice>)
     let Some(line) = needed_copy(site, parts, hart) else {
         return;
     };
-    offer(site, parts, Choice::BusRead(hart, line), choices);
+    offer_needed_read(site, parts, hart, line, choices);
 }
 
 /// Puts BusOwn of the line that a hart's instruction needs to own at the end of a list where it is
@@ -74,6 +74,7 @@ fn offer_write(
     requires stores { StoresAreOfMemory (config site.now) (shown parts.now) }
     requires hart { hart < site.now.topology.harts }
     requires room { vec_len choices.old < vec_capacity choices.old }
+    requires needed { IsNeeded (λ q p. FrontNeed (config site.now) (hart_at (config site.now) site.now.cluster.0 hart) q p) (config site.now) site.now.cluster.0 (shown parts.now) written }
     requires before { HasListed (config site.now) site.now.cluster.0 (shown parts.now) (IsRead hart) choices.old.items }
     ensures listed { HasListed (config site.now) site.now.cluster.0 (shown parts.now) (IsWritten hart written) choices.new.items }
     ensures short { vec_len choices.new ≤ vec_len choices.old + 1 }
@@ -82,7 +83,7 @@ fn offer_write(
     let Some(line) = written else {
         return;
     };
-    offer(site, parts, Choice::BusOwn(hart, line), choices);
+    offer_needed_own(site, parts, hart, line, choices);
 }
 
 /// Puts BusOwn of the line that a hart's oldest store needs to own at the end of a list where it is
@@ -110,5 +111,5 @@ fn offer_store(
     if is_this(written, line) {
         return;
     }
-    offer(site, parts, Choice::BusOwn(hart, line), choices);
+    offer_needed_own(site, parts, hart, line, choices);
 }

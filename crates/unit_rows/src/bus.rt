@@ -1,9 +1,11 @@
 //! Lines that a hart gets from its cluster.
 ghost use Rattle.std.specs.Prelude.{◌≡◌, ◌<◌, [], IsTrue, false, IfSome, IfNone};
+ghost use Rattle.dash_model.specs.Part.{Part};
+ghost use Rattle.dash_model.specs.Wants.{NeedsCopy, NeedsOwn};
 ghost use Rattle.unit_rows.specs.declared.choice.Choice.TheVariants.{BusRead, BusOwn};
 ghost use Rattle.unit_rows.specs.BusFits.{BusReadFits, BusOwnFits};
 ghost use Rattle.unit_rows.specs.Rows.{DoesChoice, Cannot};
-ghost use Rattle.unit_rows.specs.Shown.{config, shown, AreSized};
+ghost use Rattle.unit_rows.specs.Shown.{config, shown, hart_at, Shows, AreSized};
 
 use crate::needs::{is_this, needed_copy, needs_own};
 use crate::parts::Parts;
@@ -22,6 +24,17 @@ pub fn fits_bus_read(site: &Site, parts: &Parts, hart: u32, line: LineId) -> boo
     if !is_this(needed_copy(site, parts, hart), line) {
         return false;
     }
+    fits_needed_read(site, parts, hart, line)
+}
+
+/// Whether the cluster has a line that a hart needs a copy of, and the hart has room for it.
+pub fn fits_needed_read(site: &Site, parts: &Parts, hart: u32, line: LineId) -> bool
+    requires sized { AreSized (config site.now) site.now.cluster.0 (shown parts.now) }
+    requires hart { hart < site.now.topology.harts }
+    requires needed { (p : Part) → Shows (config site.now) site.now.cluster.0 (shown parts.now) p → NeedsCopy (config site.now) (hart_at (config site.now) site.now.cluster.0 hart) line.0 p }
+    ensures fits { IsTrue result → BusReadFits (config site.now) site.now.cluster.0 (shown parts.now) hart line.0 }
+    ensures idle { result ≡ false → Cannot (config site.now) site.now.cluster.0 (shown parts.now) (BusRead hart line) }
+{
     if parts.bus.peek(line).is_none() {
         return false;
     }
@@ -58,6 +71,17 @@ pub fn fits_bus_own(site: &Site, parts: &Parts, hart: u32, line: LineId) -> bool
     if !needs_own(site, parts, hart, line) {
         return false;
     }
+    fits_needed_own(site, parts, hart, line)
+}
+
+/// Whether the cluster has an owner of a line that a hart needs to own, and the hart has room for it.
+pub fn fits_needed_own(site: &Site, parts: &Parts, hart: u32, line: LineId) -> bool
+    requires sized { AreSized (config site.now) site.now.cluster.0 (shown parts.now) }
+    requires hart { hart < site.now.topology.harts }
+    requires needed { (p : Part) → Shows (config site.now) site.now.cluster.0 (shown parts.now) p → NeedsOwn (config site.now) (hart_at (config site.now) site.now.cluster.0 hart) line.0 p }
+    ensures fits { IsTrue result → BusOwnFits (config site.now) site.now.cluster.0 (shown parts.now) hart line.0 }
+    ensures idle { result ≡ false → Cannot (config site.now) site.now.cluster.0 (shown parts.now) (BusOwn hart line) }
+{
     if parts.bus.owner(line).is_none() {
         return false;
     }

@@ -7,7 +7,7 @@
 #![tactic(auto)]
 
 pub use atomics::{atomic, fits_atomic};
-pub use bus::{bus_own, bus_read, fits_bus_own, fits_bus_read};
+pub use bus::{bus_own, bus_read, fits_bus_own, fits_bus_read, fits_needed_own, fits_needed_read};
 pub use choice::Choice;
 pub use commits::{commit, fits_commit};
 pub use evictions::{evict, fits_evict};

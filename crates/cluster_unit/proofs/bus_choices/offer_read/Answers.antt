@@ -8,4 +8,7 @@ returns-in_default-clause-listed c =
 
 pub returns-clause-listed : goal.returns-clause-listed
 returns-clause-listed c =
-    a_read (config c.args.site.now) c.args.site.now.cluster.0 c.args.hart (shown c.args.parts.now) c.in-Some.line _ _ c.in-Some.ensures.needed c.requires.before c.offer.ensures.offers
+    a_read (config c.args.site.now) c.args.site.now.cluster.0 c.args.hart (shown c.args.parts.now) c.in-Some.line _ _ c.in-Some.ensures.needed c.requires.before c.offer_needed_read.ensures.offers
+
+pub offer_needed_read-requires-clause-needed : goal.offer_needed_read-requires-clause-needed
+offer_needed_read-requires-clause-needed c = λ p shows. (c.in-Some.ensures.needed p shows).0

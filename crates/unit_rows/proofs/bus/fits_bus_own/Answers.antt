@@ -1,23 +1,10 @@
-use Rattle.std.proofs.Common.{sym, ◌∙◌}
 use Rattle.unit_rows.specs.Shown.{config, shown}
-use Rattle.unit_rows.proofs.BusFits.{not_needed_own, no_owner, no_own_room, some_by_test, none_by_test, unroomy}
+use Rattle.unit_rows.proofs.BusFits.{not_needed_own}
 use Rattle.unit_rows.proofs.bus.fits_bus_own.Goals as goal
 
 pub returns-then-not-needs_own-clause-idle : goal.returns-then-not-needs_own-clause-idle
 returns-then-not-needs_own-clause-idle c = λ t.
     not_needed_own (config c.args.site.now) c.args.site.now.cluster.0 c.args.hart (shown c.args.parts.now) c.args.line (c.needs_own.ensures.unneeded c.if-not-needs_own.true)
 
-pub returns-then-is_none-clause-idle : goal.returns-then-is_none-clause-idle
-returns-then-is_none-clause-idle c = λ t.
-    no_owner (config c.args.site.now) c.args.site.now.cluster.0 c.args.hart (shown c.args.parts.now) c.args.line (sym c.owner.ensures ∙ none_by_test c.owner.result c.is_none.result c.is_none.ensures c.if-is_none.true)
-
-pub returns-clause-fits : goal.returns-clause-fits
-returns-clause-fits c = λ t. record {
-  needs = c.needs_own.ensures.needed c.if-not-needs_own.false;
-  owner = λ none. some_by_test c.owner.result c.is_none.result c.is_none.ensures c.if-is_none.false (c.owner.ensures ∙ none);
-  room = c.room.ensures.0 t;
-}
-
-pub returns-clause-idle : goal.returns-clause-idle
-returns-clause-idle c = λ t.
-    no_own_room (config c.args.site.now) c.args.site.now.cluster.0 c.args.hart (shown c.args.parts.now) c.args.line c.requires.hart c.requires.sized (unroomy c.room.result c.room.ensures t)
+pub fits_needed_own-requires-clause-needed : goal.fits_needed_own-requires-clause-needed
+fits_needed_own-requires-clause-needed c = c.needs_own.ensures.needed c.if-not-needs_own.false

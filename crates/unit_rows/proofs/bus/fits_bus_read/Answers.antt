@@ -1,23 +1,12 @@
 use Rattle.std.proofs.Common.{sym, ◌∙◌}
 use Rattle.unit_rows.specs.Shown.{config, shown}
-use Rattle.unit_rows.proofs.BusFits.{copy_for, this_found, this_missing, other_line, no_copy, no_room, some_by_test, none_by_test, unroomy}
+use Rattle.unit_rows.proofs.BusFits.{copy_for, this_found, this_missing, other_line}
 use Rattle.unit_rows.proofs.bus.fits_bus_read.Goals as goal
 
 pub returns-then-not-is_this-clause-idle : goal.returns-then-not-is_this-clause-idle
 returns-then-not-is_this-clause-idle c = λ t.
     other_line (config c.args.site.now) c.args.site.now.cluster.0 c.args.hart (shown c.args.parts.now) c.args.line c.needed_copy.result c.needed_copy.ensures.needed (this_missing c.needed_copy.result c.args.line (sym c.is_this.ensures ∙ c.if-not-is_this.true))
 
-pub returns-then-is_none-clause-idle : goal.returns-then-is_none-clause-idle
-returns-then-is_none-clause-idle c = λ t.
-    no_copy (config c.args.site.now) c.args.site.now.cluster.0 c.args.hart (shown c.args.parts.now) c.args.line (sym c.peek.ensures ∙ none_by_test c.peek.result c.is_none.result c.is_none.ensures c.if-is_none.true)
-
-pub returns-clause-fits : goal.returns-clause-fits
-returns-clause-fits c = λ t. record {
-  needs = copy_for (config c.args.site.now) c.args.site.now.cluster.0 c.args.hart (shown c.args.parts.now) c.args.line c.needed_copy.result c.needed_copy.ensures.needed (this_found c.needed_copy.result c.args.line (sym c.is_this.ensures ∙ c.if-not-is_this.false));
-  copy = λ none. some_by_test c.peek.result c.is_none.result c.is_none.ensures c.if-is_none.false (c.peek.ensures ∙ none);
-  room = c.room.ensures.0 t;
-}
-
-pub returns-clause-idle : goal.returns-clause-idle
-returns-clause-idle c = λ t.
-    no_room (config c.args.site.now) c.args.site.now.cluster.0 c.args.hart (shown c.args.parts.now) c.args.line c.requires.hart c.requires.sized (unroomy c.room.result c.room.ensures t)
+pub fits_needed_read-requires-clause-needed : goal.fits_needed_read-requires-clause-needed
+fits_needed_read-requires-clause-needed c =
+    copy_for (config c.args.site.now) c.args.site.now.cluster.0 c.args.hart (shown c.args.parts.now) c.args.line c.needed_copy.result c.needed_copy.ensures.needed (this_found c.needed_copy.result c.args.line (sym c.is_this.ensures ∙ c.if-not-is_this.false))

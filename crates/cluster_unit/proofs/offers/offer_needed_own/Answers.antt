@@ -1,0 +1,12 @@
+use Rattle.std.proofs.Common.{refl}
+use Rattle.unit_rows.specs.Shown.{config, shown}
+use Rattle.unit_rows.proofs.LawsOffered.{can_own}
+use Rattle.cluster_unit.specs.Listing.{PutIn, LeftOut}
+use Rattle.cluster_unit.proofs.offers.offer_needed_own.Goals as goal
+
+pub returns-then-not-fits_needed_own-clause-offers : goal.returns-then-not-fits_needed_own-clause-offers
+returns-then-not-fits_needed_own-clause-offers c = LeftOut (c.fits_needed_own.ensures.idle c.if-not-fits_needed_own.true) refl
+
+pub returns-clause-offers : goal.returns-clause-offers
+returns-clause-offers c =
+    PutIn (can_own (config c.args.site.now) c.args.site.now.cluster.0 c.args.hart (shown c.args.parts.now) c.args.line (c.fits_needed_own.ensures.fits c.if-not-fits_needed_own.false) c.requires.hart c.requires.sized) c.push_reserved.ensures.items
