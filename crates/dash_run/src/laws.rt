@@ -72,7 +72,7 @@ pub fn out_of_memory_is_quiet()
     ensures { OutOfMemoryIsQuiet }
 {}
 
-/// The statuses of a run come only for a whole run of an image that is accepted.
+/// The statuses of a run come only for a whole run of an image that is accepted, or of a seed's workload.
 pub fn run_has_cause()
     ensures { RunHasCause }
 {}
@@ -122,7 +122,7 @@ pub fn failed_report_leaves_run()
 {}
 
 /// With the statuses of a run the calls of the host were one load and a print of each section: three, or
-/// four where the words ask for the log.
+/// four where the words ask for the log. For a seed the only call was a print of its summary.
 pub fn runs_load_and_print()
     ensures { RunsLoadAndPrint }
 {}

@@ -41,7 +41,7 @@ pub struct Ended {
     pub rounds: u64,
 }
 
-/// The top call: does what the words ask for, and prints the report or the line.
+/// The top call: does what the words ask for, and prints the report, the summary or the line.
 ///
 /// The host may be asked for the files that the words name, and for nothing else. Cluster c chooses by
 /// arbiter c. What follows from the clause `outcome` are the other clauses, and laws of the module
@@ -72,7 +72,8 @@ pub fn dash<R: Threads + Wait + Sync, H: Host, G: Gate>(
     // Where no run was made, nothing is left of one.
     ensures empty { result.log.items ≡ [] → (result.units.items ≡ []) × (result.rounds ≡ 0) }
 
-    // The report of a run, and nothing else, was printed; or a part of it, where a print failed.
+    // The report of a run, or for a seed the summary of its workload, and nothing else, was printed; or a
+    // part of it, where a print failed.
     ensures printed { MadeRun result.status result.log.items → OfMachine (map string_bytes words.now) (H.files host.old)
         (HasPrinted (map string_bytes words.now) result.log.items result.status (record { old = H.printed host.old; new = H.printed host.new })) }
 
