@@ -4,6 +4,8 @@
 #[cfg(test)]
 mod arithmetic;
 #[cfg(test)]
+mod assembling;
+#[cfg(test)]
 mod decoding;
 #[cfg(test)]
 mod elf_loading;

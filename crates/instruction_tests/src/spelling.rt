@@ -4,7 +4,7 @@ use dash_base::{AluOp, Instr, Op};
 use rv32_decode::decode;
 use rv32_text::text;
 
-static WORDS: [(u32, &str); 55] = [
+pub static WORDS: [(u32, &str); 55] = [
     (0x00000037, "lui zero,0"),
     (0xFFFFFFB7, "lui t6,1048575"),
     (0x00001117, "auipc sp,1"),
