@@ -32,4 +32,7 @@ pub mod Rising
 pub mod InTurn
 pub mod MergedLogs
 pub mod RunEnds
+pub mod Firsts
+pub mod Takings
+pub mod SettledStays
 pub mod LawsOffered

@@ -80,7 +80,7 @@ log_at k (suc c) (l ∷ ls) h =
 own_log : (ls : List (List Event)) → AreLogs ls → (c : ℕ) → events_of c (joined ls) ≡ log_of ls c
 own_log ls logs c = let at : c ≡ 0 + c = omega arith in ap (λ n. events_of n (joined ls)) at ∙ log_at 0 c ls (from_logs ls logs)
 
-past : (c : ℕ) (ls : List (List Event)) → length ls ≤ c → log_of ls c ≡ []
+pub past : (c : ℕ) (ls : List (List Event)) → length ls ≤ c → log_of ls c ≡ []
 past c [] le = refl
 past zero (l ∷ ls) le = absurd (omega arith)
 past (suc c) (l ∷ ls) le = past c ls (omega arith)

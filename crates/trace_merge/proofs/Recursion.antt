@@ -30,13 +30,13 @@ module _ {X : Type 0} (P : X → Type 0) where
 
 -- ---- the events of one cluster
 
-is_same : (a b : ℕ) → (a == b) ≡ true → a ≡ b
+pub is_same : (a b : ℕ) → (a == b) ≡ true → a ≡ b
 is_same a b e = grind (arith, nat_tests)
 
 same_is : (a b : ℕ) → a ≡ b → (a == b) ≡ true
 same_is a b e = grind (arith, nat_tests)
 
-is_other : (a b : ℕ) → (a == b) ≡ false → a ≡ b → ⊥
+pub is_other : (a b : ℕ) → (a == b) ≡ false → a ≡ b → ⊥
 is_other a b e s = grind (arith, nat_tests)
 
 other_at : (a b : ℕ) (t : Bool) → (a == b) ≡ t → (a ≡ b → ⊥) → (a == b) ≡ false

@@ -30,7 +30,7 @@ own_if : (c : ℕ) (e : Event) (es own : List Event) (b : Bool) → Each (Preced
 own_if c e es own true first rest = (precedes_of e own first, rest)
 own_if c e es own false first rest = rest
 
-own_kept : (P : Event → Type 0) (c : ℕ) (es : List Event) → Each P es → Each P (events_of c es)
+pub own_kept : (P : Event → Type 0) (c : ℕ) (es : List Event) → Each P es → Each P (events_of c es)
 unfolding events_of
 own_kept P c [] h = tt
 own_kept P c (e ∷ es) h = each_if P e (events_of c es) (e.cluster.0 == c) h.0 (own_kept P c es h.1)
@@ -47,14 +47,14 @@ abbrev Has : List Event → List Event → Type 1
 Has xs ys = (P : Event → Type 0) → Each P xs → Each P ys
 
 -- x itself, or after it
-abbrev From : Event → Event → Type 0
+abbrev pub From : Event → Event → Type 0
 From x e = (e ≡ x) ⊎ Precedes x e
 
-from_first : (x : Event) (xs : List Event) → PrecedesAll x xs → Each (From x) xs
+pub from_first : (x : Event) (xs : List Event) → PrecedesAll x xs → Each (From x) xs
 from_first x [] h = tt
 from_first x (e ∷ es) h = (inr h.0, from_first x es h.1)
 
-first_is : (x y : Event) → From x y → From y x → y ≡ x
+pub first_is : (x y : Event) → From x y → From y x → y ≡ x
 first_is x y (inl e) back = e
 first_is x y (inr p) (inl e) = sym e
 first_is x y (inr p) (inr q) = absurd (not_both x y p q)

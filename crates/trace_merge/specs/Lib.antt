@@ -2,3 +2,5 @@ pub mod OrderLaws
 pub mod WrittenLogs
 pub mod MergedLogs
 pub mod RunEnds
+pub mod Settled
+pub mod Taking

@@ -1,6 +1,7 @@
 //! Laws of logs. The functions do nothing: their contracts are the laws.
 ghost use Rattle.trace_merge.specs.OrderLaws.{CommitOrder, ConsoleIsTheRuns, OneHartIsInOrder, RunsAreSequential};
 ghost use Rattle.trace_merge.specs.MergedLogs.{MergedLogsAreRuns};
+ghost use Rattle.trace_merge.specs.Settled.{MergesBegin, NothingStarts, SettledPartsStay};
 ghost use Rattle.trace_merge.specs.RunEnds.{CompleteRunsAreComplete};
 ghost use Rattle.trace_merge.specs.WrittenLogs.{ForwardingIsAdmissible, MessageIsAdmissible, MessageIsProperlyLabelled, MessageIsInOrder};
 
@@ -42,6 +43,21 @@ pub fn console_is_the_runs()
 /// machine. It leaves each cluster's part as its own run did, and each lane with what was not taken.
 pub fn merged_logs_are_runs()
     ensures { MergedLogsAreRuns }
+{}
+
+/// Nothing is a start of what is settled.
+pub fn nothing_starts()
+    ensures { NothingStarts }
+{}
+
+/// Whatever the clusters append to their logs, what was settled stays a start of what is settled.
+pub fn settled_parts_stay()
+    ensures { SettledPartsStay }
+{}
+
+/// The merge of logs begins with each start of it, so with what is settled.
+pub fn merges_begin()
+    ensures { MergesBegin }
 {}
 
 /// A written log is admissible in which a hart loads its own store, commits it, and loads the version

@@ -3,8 +3,11 @@
 #![tactic(auto)]
 
 pub use log::{accesses, console};
+pub use merger::Merger;
 pub use merging::merge;
 
 pub mod laws;
 mod log;
+mod merger;
 mod merging;
+mod taking;

@@ -1,0 +1,12 @@
+use Rattle.std.proofs.Common.{◌≡◌, length, map}
+use Rattle.trace_merge.specs.Settled.{StartsMerge}
+use Rattle.trace_merge.specs.Taking.{AreTaken}
+use Rattle.trace_merge.proofs.Takings.{left_in}
+use Rattle.trace_merge.proofs.taking.take_all.Given as goal
+
+abbrev pub invariant-loop-event : goal.invariant-loop-event
+invariant-loop-event g l =
+    (length l.taken.items ≡ length l.logs) × (AreTaken l.done.items l.taken.items × StartsMerge (map g.L.Logged.log l.logs) l.done.items)
+
+abbrev pub decreases-loop-event : goal.decreases-loop-event
+decreases-loop-event g l = left_in (map g.L.Logged.log l.logs) l.taken.items
