@@ -11,6 +11,7 @@ pub mod TakesListed
 pub mod Listed
 pub mod Turning
 pub mod EndsMet
+pub mod NeedsListed
 pub mod Offering
 pub mod InRange
 pub mod BusListing

@@ -3,6 +3,7 @@ pub mod Order
 pub mod Lists
 pub mod Listing
 pub mod Victims
+pub mod Needs
 pub mod View
 pub mod Ends
 pub mod Core

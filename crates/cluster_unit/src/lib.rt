@@ -27,6 +27,7 @@ mod list;
 mod listing;
 mod meeting;
 mod messages;
+mod needs;
 mod offers;
 mod quiet;
 mod range;

@@ -8,6 +8,7 @@ use crate::bus_choices::list_bus;
 use crate::by_number::{ByNumber, list_by_number};
 use crate::evict_choices::list_evictions;
 use crate::grants::list_grants;
+use crate::needs::find_needs;
 use unit_rows::{Choice, Parts, Site};
 
 /// How many choices a cluster can have at most, those to take a message among them.
@@ -26,11 +27,12 @@ pub fn list_own(site: &Site, parts: &Parts, choices: &mut Vec<Choice>)
 {
     let harts = site.topology.harts;
     let used = parts.slots.used();
+    let needs = find_needs(site, parts);
     choices.clear();
     list_by_number(site, parts, ByNumber::Step, harts, choices);
     list_by_number(site, parts, ByNumber::Commit, harts, choices);
-    list_bus(site, parts, choices);
-    list_evictions(site, parts, choices);
+    list_bus(site, parts, needs.as_slice(), choices);
+    list_evictions(site, parts, needs.as_slice(), choices);
     list_by_number(site, parts, ByNumber::Ask, 2 * harts, choices);
     list_by_number(site, parts, ByNumber::Again, used, choices);
     list_by_number(site, parts, ByNumber::Install, used, choices);

@@ -3,6 +3,7 @@ ghost use Rattle.std.specs.Prelude.{◌≡◌, ◌+◌, ◌<◌, ◌≤◌};
 ghost use Rattle.arrayvec.specs.ArrayVec.{array_vec_len};
 ghost use Rattle.remote_cache.specs.View.{count, slot_at};
 ghost use Rattle.snoop_bus.specs.View.{harts};
+ghost use Rattle.unit_rows.specs.AllNeeds.{AreNeeded};
 ghost use Rattle.unit_rows.specs.Shown.{config, shown, AreSized};
 ghost use Rattle.cluster_unit.specs.Victims.{IsRising, IsIn, Keeps, came_line, HasCame, HasVictimOf, HasVictims};
 
@@ -10,7 +11,7 @@ use arrayvec::ArrayVec;
 use dash_base::LineId;
 use remote_cache::{Phase, Slots};
 use snoop_bus::Bus;
-use unit_rows::{Parts, Site, needed_copy, needed_store, needed_write};
+use unit_rows::{Needed, Parts, Site, find_needed};
 
 /// How many lines a hart can want at most: one of each slot, and three of its instruction and its
 /// oldest store.
@@ -25,14 +26,29 @@ pub fn victims(site: &Site, parts: &Parts, hart: u32) -> ArrayVec<u32, MOST_WANT
     ensures whole { HasVictims (config site.now) site.now.cluster.0 (shown parts.now) hart result.items }
     ensures few { array_vec_len result ≤ 19 }
 {
+    let needed = find_needed(site, parts, hart);
+    victims_of(site, parts, hart, needed)
+}
+
+/// The same, where the lines that the hart needs were found.
+pub fn victims_of(
+    site: &Site,
+    parts: &Parts,
+    hart: u32,
+    needed: Needed,
+) -> ArrayVec<u32, MOST_WANTED>
+    requires sized { AreSized (config site.now) site.now.cluster.0 (shown parts.now) }
+    requires hart { hart < site.now.topology.harts }
+    requires needed { AreNeeded (config site.now) site.now.cluster.0 (shown parts.now) hart needed }
+    ensures rising { IsRising result.items }
+    ensures whole { HasVictims (config site.now) site.now.cluster.0 (shown parts.now) hart result.items }
+    ensures few { array_vec_len result ≤ 19 }
+{
     let mut lines = ArrayVec::new();
     add_came(&parts.slots, &parts.bus, hart, &mut lines);
-    let copy = needed_copy(site, parts, hart);
-    add_victim(&parts.bus, hart, copy, &mut lines);
-    let write = needed_write(site, parts, hart);
-    add_victim(&parts.bus, hart, write, &mut lines);
-    let store = needed_store(site, parts, hart);
-    add_victim(&parts.bus, hart, store, &mut lines);
+    add_victim(&parts.bus, hart, needed.copy, &mut lines);
+    add_victim(&parts.bus, hart, needed.write, &mut lines);
+    add_victim(&parts.bus, hart, needed.store, &mut lines);
     lines
 }
 

@@ -11,6 +11,7 @@ pub mod Steps
 pub mod CommitFits
 pub mod Replies
 pub mod LineNeeds
+pub mod AllNeeds
 pub mod AtomicFits
 pub mod BusFits
 pub mod SlotFits

@@ -8,3 +8,6 @@ returns-clause-listed c =
     let past = c.loop-hart-test.false in
     let low = c.loop-hart.invariant.3 in
     subst (λ n. HasListed (config c.args.site.now) c.args.site.now.cluster.0 (shown c.args.parts.now) (IsBelow 4 n) c.loop-hart.choices.items) (grind arith) c.loop-hart.invariant.0
+
+pub list_evictions_of-requires-clause-needed : goal.list_evictions_of-requires-clause-needed
+list_evictions_of-requires-clause-needed c = c.requires.needed.each c.loop-hart.hart _ c.loop-hart-test.true
