@@ -92,6 +92,18 @@ class Checks:
         if self.failed:
             self.end()
 
+    def build_crate(self, name):
+        """Has the program of that crate proved and built, and gives its path."""
+        folder = os.path.join(ROOT, "crates", name)
+        path = os.path.join(folder, "out", name)
+        # `rt run` runs it as well: these words are none that it serves.
+        with subprocess.Popen(["rt", "run", "--", "none"], cwd=folder, stdin=subprocess.DEVNULL, stdout=subprocess.PIPE, stderr=subprocess.STDOUT) as process:
+            said, _ = process.communicate()
+        self.check(f"the program of {name} is built", os.path.exists(path), f"`rt run` says in its folder: {shortened(said)}")
+        if self.failed:
+            self.end()
+        return path
+
     def end(self):
         print(f"{self.passed} passed, {self.failed} failed", flush=True)
         sys.exit(1 if self.failed or not self.passed else 0)
