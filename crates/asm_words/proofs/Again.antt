@@ -61,7 +61,7 @@ numbers_again (pos n) small = positive_again n (omega (arith, ints))
 numbers_again (negsuc n) small = negative_again (suc n) (omega (arith, ints))
 
 -- a test that passes at each number below a limit
-abbrev passes_below : (ℕ → Bool) → ℕ → Bool
+abbrev pub passes_below : (ℕ → Bool) → ℕ → Bool
 passes_below test zero = true
 passes_below test (suc n) = test n && passes_below test n
 
@@ -73,7 +73,7 @@ second_of_both : (a b : Bool) → a && b ≡ true → b ≡ true
 second_of_both true b e = e
 second_of_both false b e = absurd (cc)
 
-passes : (test : ℕ → Bool) (limit : ℕ) → passes_below test limit ≡ true → (n : ℕ) → n < limit → test n ≡ true
+pub passes : (test : ℕ → Bool) (limit : ℕ) → passes_below test limit ≡ true → (n : ℕ) → n < limit → test n ≡ true
 passes test zero all n below = absurd (omega arith)
 passes test (suc limit) all n below =
     elim (eq-or-lt_of_le (le_of_suc-le-suc below)) [

@@ -3,3 +3,4 @@ pub mod Values
 pub mod Found
 pub mod Again
 pub mod Cutting
+pub mod Texts

@@ -4,3 +4,6 @@ pub mod Walk
 pub mod Accepted
 pub mod Zeros
 pub mod Building
+pub mod Spelled
+pub mod Operand
+pub mod Spellings

@@ -8,3 +8,4 @@ pub mod Tree
 pub mod Limits
 pub mod Assembling
 pub mod Assembled
+pub mod Texts

@@ -20,6 +20,7 @@ mod here;
 mod immediates;
 mod jumps;
 mod labels;
+pub mod laws;
 mod lines;
 mod refusal;
 mod register;

@@ -1,7 +1,7 @@
-mod Words
+pub mod Words
 mod Tables
-mod Numbers
-mod Pieces
+pub mod Numbers
+pub mod Pieces
 mod Mnemonics
 mod Operands
 mod Rows
