@@ -5,7 +5,8 @@ use dash_base::{ClusterId, HartId, LineId};
 use dash_event::{Event, EventLog, Kind, Logged};
 use dash_msg::Msg;
 use std::test::Fail;
-use trace_merge::merge;
+use trace_merge::laws::{nothing_starts, settled_parts_stay};
+use trace_merge::{Merger, merge};
 
 #[test]
 fn a_log_gives_its_events_in_order(rt: HostRuntime) -> Result<(), Fail> {
@@ -66,6 +67,47 @@ fn logs_are_merged_by_stamp_and_then_by_cluster(rt: HostRuntime) -> Result<(), F
         retires(1, 3),
         retires(0, 4),
         retires(1, 7),
+    ];
+    assert_eq!(rt; merged.as_slice(), wanted.as_slice());
+    Ok(())
+}
+
+#[test]
+fn an_event_is_merged_once_no_cluster_can_write_one_before_it(rt: HostRuntime) -> Result<(), Fail> {
+    let near = [retires(0, 1), retires(0, 2), retires(0, 5)];
+    let far = retires(1, 3);
+    let early = [
+        EventLog {
+            events: Vec::from_slice(rt.alloc(), &near)?,
+        },
+        EventLog {
+            events: Vec::from_slice(rt.alloc(), &[far])?,
+        },
+    ];
+    let late = [
+        EventLog {
+            events: Vec::from_slice(rt.alloc(), &near)?,
+        },
+        EventLog {
+            events: Vec::from_slice(rt.alloc(), &[far, retires(1, 6)])?,
+        },
+    ];
+    let mut merger = Merger::new(rt.alloc(), 2)?;
+    nothing_starts();
+    merger.add(&early)?;
+    let wanted = [retires(0, 1), retires(0, 2), retires(1, 3)];
+    assert_eq!(rt; merger.done(), wanted.as_slice());
+    settled_parts_stay();
+    merger.add(&late)?;
+    let wanted = [retires(0, 1), retires(0, 2), retires(1, 3), retires(0, 5)];
+    assert_eq!(rt; merger.done(), wanted.as_slice());
+    let merged = merger.finish(&late)?;
+    let wanted = [
+        retires(0, 1),
+        retires(0, 2),
+        retires(1, 3),
+        retires(0, 5),
+        retires(1, 6),
     ];
     assert_eq!(rt; merged.as_slice(), wanted.as_slice());
     Ok(())
