@@ -7,3 +7,5 @@ pub mod Building
 pub mod Spelled
 pub mod Operand
 pub mod Spellings
+pub mod Pairs
+pub mod Contents

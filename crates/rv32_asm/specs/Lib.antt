@@ -9,3 +9,4 @@ pub mod Limits
 pub mod Assembling
 pub mod Assembled
 pub mod Texts
+pub mod Orders
