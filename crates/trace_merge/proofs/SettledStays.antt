@@ -119,6 +119,7 @@ module _ (left : ℕ → List Event) where
   first_same e x es m rise rose before same = first_is x e there back where
     there : From x e
     there = (subst (Each (From x)) (same e.cluster.0 ∙ ap (λ l. l ++ left e.cluster.0) (own_first e.cluster.0 e es refl)) (own_kept (From x) e.cluster.0 (x ∷ m) (inl refl, from_first x m rose.0))).0
+
     back : From e x
     back = (subst (Each (From e)) (sym (same x.cluster.0) ∙ own_first x.cluster.0 x m refl)
         (each_append (From e) (events_of x.cluster.0 (e ∷ es)) (left x.cluster.0) (own_kept (From e) x.cluster.0 (e ∷ es) (inl refl, from_first e es rise.0)) (from_all e (left x.cluster.0) (before x.cluster.0)))).0
