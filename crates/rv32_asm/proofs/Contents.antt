@@ -53,11 +53,11 @@ nothing_put : (labels : Definitions) (statement : Statement) → homeless statem
 unfolding words
 nothing_put labels statement e = grind (arith, nat_tests)
 
-accepted : (line : ℕ) (cause : Option AsmCause) (rest : Option AsmRefusal) → refused_or line cause rest ≡ None → cause ≡ None
+pub accepted : (line : ℕ) (cause : Option AsmCause) (rest : Option AsmRefusal) → refused_or line cause rest ≡ None → cause ≡ None
 accepted line (Some c) rest e = absurd (cc)
 accepted line None rest e = refl
 
-rest_accepted : (line : ℕ) (cause : Option AsmCause) (rest : Option AsmRefusal) → refused_or line cause rest ≡ None → rest ≡ None
+pub rest_accepted : (line : ℕ) (cause : Option AsmCause) (rest : Option AsmRefusal) → refused_or line cause rest ≡ None → rest ≡ None
 rest_accepted line (Some c) rest e = absurd (cc)
 rest_accepted line None rest e = e
 

@@ -9,3 +9,4 @@ pub mod Operand
 pub mod Spellings
 pub mod Pairs
 pub mod Contents
+pub mod LeastLine

@@ -10,3 +10,4 @@ pub mod Assembling
 pub mod Assembled
 pub mod Texts
 pub mod Orders
+pub mod Least
