@@ -1,5 +1,7 @@
 //! Why nothing is printed.
 
+use dash_base::OutOfMemory;
+use rv32_asm::AsmRefusal;
 use std::alloc::{AllocError, AllocFailed};
 use std::io;
 use std::io::ErrorKind;
@@ -14,6 +16,8 @@ pub enum Failure {
     Failed,
     /// The text is no log's.
     Log(TextRefusal),
+    /// The source is no program's.
+    Source(AsmRefusal),
     /// There was no memory.
     OutOfMemory,
 }
@@ -23,7 +27,8 @@ impl Failure {
     pub fn status(&self) -> u8 {
         match self {
             Failure::Log(TextRefusal::OutOfMemory) | Failure::OutOfMemory => 6,
-            Failure::Log(_) => 1,
+            Failure::Source(AsmRefusal::OutOfMemory) => 6,
+            Failure::Log(_) | Failure::Source(_) => 1,
             Failure::Usage => 2,
             Failure::Failed => 5,
         }
@@ -35,6 +40,9 @@ impl Failure {
             Failure::Log(TextRefusal::Head) => eprintln!(rt; "texts: head"),
             Failure::Log(TextRefusal::Cut) => eprintln!(rt; "texts: cut"),
             Failure::Log(TextRefusal::At { line }) => eprintln!(rt; "texts: line {line}"),
+            Failure::Source(AsmRefusal::At { line, cause }) => {
+                eprintln!(rt; "texts: line {line}: {cause:?}")
+            }
             _ => Ok(()),
         }
     }
@@ -53,6 +61,18 @@ impl From<io::Error> for Failure {
 impl From<TextRefusal> for Failure {
     fn from(refusal: TextRefusal) -> Failure {
         Failure::Log(refusal)
+    }
+}
+
+impl From<AsmRefusal> for Failure {
+    fn from(refusal: AsmRefusal) -> Failure {
+        Failure::Source(refusal)
+    }
+}
+
+impl From<OutOfMemory> for Failure {
+    fn from(_error: OutOfMemory) -> Failure {
+        Failure::OutOfMemory
     }
 }
 

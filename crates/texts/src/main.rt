@@ -1,7 +1,9 @@
-//! Texts read and written again, for tests to try: `texts log FILE` prints the text of the log whose text the
-//! file is. It is no part of the simulator. Its exit status is 0, or 1 where the text is refused, 2 where the
-//! words are others, 5 where the file can't be read, is larger than 256 MiB or nothing can be written, and 6
-//! where there is no memory. A refusal is one line on standard error.
+//! Texts that are read, for tests to try. `texts log FILE` prints the text of the log whose text the file is, and
+//! `texts assemble FILE` the executable file of the program whose source it is. It is no part of the simulator.
+//! Its exit status is 0, or 1 where the text is refused, 2 where the words are others, 5 where the file can't be
+//! read, is larger than 256 MiB, as a source is no UTF-8, or nothing can be written, and 6 where there is no
+//! memory. A refusal is one line on standard error: `texts: head`, `texts: cut`, `texts: line N` of a log, and
+//! `texts: line N: CAUSE` of a source.
 #![tactic(auto)]
 
 ghost use Rattle.std.specs.Prelude.{◌≤◌, length, IfOk};
@@ -15,6 +17,7 @@ use std::process::ExitCode;
 
 mod again;
 mod failure;
+mod image;
 
 /// The most bytes of a file.
 const LIMIT: u64 = 268_435_456;
@@ -40,6 +43,14 @@ fn run(rt: &HostRuntime) -> Result<(), Failure> {
         "log" => {
             let bytes = read(rt, alloc, words[1].as_str())?;
             rt.stdout().write_all(&again::log(alloc, &bytes)?)?;
+            Ok(())
+        }
+        "assemble" => {
+            let bytes = read(rt, alloc, words[1].as_str())?;
+            let Ok(source) = str::from_utf8(&bytes) else {
+                return Err(Failure::Failed);
+            };
+            rt.stdout().write_all(&image::assembled(alloc, source)?)?;
             Ok(())
         }
         _ => Err(Failure::Usage),
